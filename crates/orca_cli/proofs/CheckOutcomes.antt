@@ -4,14 +4,14 @@ use Rattle.query_core.specs.declared.catalog.Catalog.{Catalog}
 use Rattle.query_core.specs.declared.options.Options.{Options}
 use Rattle.query_core.specs.declared.query.Query.{Query}
 use Rattle.text_check.specs.declared.text_fault.TextFault.TheVariants as faults
-use Rattle.command_line.specs.Command.{PlanNames, FileNames, check}
+use Rattle.command_line.specs.Command.{PlanNames, check}
 use Rattle.command_line.specs.declared.choices.Choices.{Choices}
 use Rattle.orca_cli.specs.Asked.{SaysCatalog, Asks}
 use Rattle.orca_cli.specs.Checked.{IsCheckEnd, faulty}
 use Rattle.orca_cli.specs.Laws.{CheckOutcome, OneCheck}
 use Rattle.orca_cli.specs.Prepared.{reads, Offers, FilesAsk, IsCatalogRefused, IsQueryRefused, FilesStop, CheckStops}
 use Rattle.orca_cli.specs.Prepared.{unread, unusable, by_catalog, by_file, by_query, by_plan}
-use Rattle.orca_cli.specs.Run.{IsEnding, answered, own_end, stopped}
+use Rattle.orca_cli.specs.Run.{IsEnding, answered, from_dump, own_end, stopped}
 use Rattle.orca_cli.specs.Texts as texts
 use Rattle.orca_cli.specs.declared.status.Status.{Status}
 use Rattle.orca_cli.proofs.CheckedEnds.{OneText, one_check}
@@ -63,6 +63,7 @@ module _ (named : PlanNames) (choices : Choices) (held : List ℕ → Option (Li
   known_check : IsEnding (record { task = check named; choices = choices }) (reads held o.before o.after) o.empty o.note
       status text → KnownCheck bytes choices.options asked plan status text
   known_check (answered query asks search) = absurd asks
+  known_check (from_dump other task end) = cc
   known_check (own_end own kept) =
       checked own.asks.catalog (says_there own.asks.catalog own.asks.offers) own.query (asks_there own.query own.asks)
       (subst (λ b. IsCheckEnd own.query b status text) (told_one (held named.plan) own.plan plan own.told o.plan_told)

@@ -1,5 +1,5 @@
 -- How a run ends that checks a text.
-use Rattle.std.proofs.Common.{◌≡◌, ◌≢◌, ◌⊎◌, ℕ, List, Option, Result, Ok, Err, refl, sym, ap, ◌∙◌, subst, inl, inr}
+use Rattle.std.proofs.Common.{◌≡◌, ◌≢◌, ◌⊎◌, ℕ, List, Option, Result, Ok, Err, sym, ap, ◌∙◌, inl, inr}
 use Rattle.query_core.specs.declared.catalog.Catalog.{Catalog}
 use Rattle.query_core.specs.declared.options.Options.{Options}
 use Rattle.query_core.specs.declared.query.Query.{Query}
@@ -14,11 +14,10 @@ use Rattle.orca_cli.specs.Asked.{Asks}
 use Rattle.orca_cli.specs.Causes.{Holds, ReadRose}
 use Rattle.orca_cli.specs.Checked.{IsCheckEnd, priced, faulty}
 use Rattle.orca_cli.specs.Prepared.{Reads, AreTold, IsQueryRefused, unread, unusable, by_query, by_plan}
-use Rattle.orca_cli.specs.Run.{IsEnding, answered, own_end, stopped}
-use Rattle.orca_cli.specs.Status.{IsOneOf, plan_accepted, plan_turned_down}
+use Rattle.orca_cli.specs.Run.{IsEnding, answered, from_dump, own_end, stopped}
+use Rattle.orca_cli.specs.Status.{IsOneOf, served, plan_turned_down}
 use Rattle.orca_cli.specs.Texts as texts
 use Rattle.orca_cli.specs.declared.status.Status.{Status}
-use Rattle.orca_cli.specs.declared.status.Status.TheVariants.{Planned, PlanRefused}
 use Rattle.orca_cli.proofs.OneAnswer.{asked_there, refused_there}
 
 -- ---- the end of a check is one
@@ -72,7 +71,7 @@ module _ (one : OneText) (q : Query) (plan : List ℕ) where
 
   -- a good text is accepted
   pub accepted : (cost : ℕ) (status : Status) (text : List ℕ) → IsGoodText q plan cost → IsCheckEnd q plan status text
-      → IsOneOf plan_accepted status
+      → IsOneOf served status
   accepted cost status text good (priced is other good_too line) = inl is
   accepted cost status text good (faulty is fault lasts has line) = absurd (good_or_not cost fault lasts good has)
 
@@ -102,6 +101,7 @@ pub checked_of : (named : PlanNames) (choices : Choices) (shelf : Reads) (catalo
     ⊎ IsCheckOf named choices.options shelf.held catalog asked status text
 checked_of named choices shelf catalog asked holds note status text empty no_read (answered query asks search) =
     absurd asks
+checked_of named choices shelf catalog asked holds note status text empty no_read (from_dump other task end) = cc
 checked_of named choices shelf catalog asked holds note status text empty no_read (own_end own kept) =
     inr (record {
       query = own.query;

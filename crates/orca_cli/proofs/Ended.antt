@@ -14,7 +14,7 @@ use Rattle.orca_cli.specs.Prepared.{Reads, generated_in, IsAskedBy, IsForOne, As
 use Rattle.orca_cli.specs.Run.{IsEnding, answered, own_end, stopped, IsRun, Puts, Ends, whole, cut_short, nothing}
 use Rattle.orca_cli.specs.Sections.{Tells}
 use Rattle.orca_cli.specs.Staged.{IsStagedEnd}
-use Rattle.orca_cli.specs.Views.{EndsAs, EndsWith, IsEndOf, text_of, AreListed, AsksInStages, AsksFor, IsWorkForOne}
+use Rattle.orca_cli.specs.Views.{EndsAs, EndsWith, IsEndOf, text_of, AreListed, AsksFor, IsWorkForOne}
 use Rattle.orca_cli.specs.Views.{IsWanted}
 use Rattle.orca_cli.specs.declared.asked.Asked.{Asked}
 use Rattle.orca_cli.specs.declared.asked.Checked.{Checked}
@@ -52,6 +52,23 @@ pub ends_then : (P Q : Status → List ℕ → Type 0) (end : End) → ((s : Sta
 ends_then P Q (ends.Told ending) step fact = step ending.status (text_of ending) fact
 ends_then P Q ends.Memory step fact = tt
 
+-- the command that is wanted asks for this work
+pub asked_for : (named : Option AnyCommand) (held : List ℕ → Option (List ℕ)) (wanted : Wanted) (work : Work)
+    → wanted.work ≡ work → IsWanted named held wanted
+    → AsksFor (task_read wanted.command.task) wanted.command.choices.options held work
+asked_for named held wanted work same is =
+    subst (AsksFor (task_read wanted.command.task) wanted.command.choices.options held) same is.asks_for
+
+-- a run of the command that is wanted, which has this task
+pub task_run : (named : Option AnyCommand) (shelf : Reads) (empty note : Note) (wanted : Wanted) (status : Status)
+    (text : List ℕ) → IsWanted named shelf.held wanted → (task : AnyTask) → task_read wanted.command.task ≡ task
+    → IsEnding (record { task = task; choices = wanted.command.choices }) shelf empty note status text
+    → IsRun named shelf empty note status text
+task_run named shelf empty note wanted status text is task same ending =
+    subst (λ n. IsRun n shelf empty note status text) (sym is.named_is)
+    (subst (λ k. IsEnding (record { task = k; choices = wanted.command.choices }) shelf empty note status text)
+    (sym same) ending)
+
 -- a run that searched the query for which its command asks
 pub query_run : (named : Option AnyCommand) (shelf : Reads) (empty note : Note) (wanted : Wanted) (asked : Asked)
     (input : Option GenInput) (status : Status) (text : List ℕ) → wanted.work ≡ works.Query asked
@@ -61,7 +78,7 @@ pub query_run : (named : Option AnyCommand) (shelf : Reads) (empty note : Note) 
 query_run named shelf empty note wanted asked input status text work is made found =
     let command = command_read wanted.command in
     let asks : IsAskedBy command.task command.choices.options shelf.held asked.query =
-    subst (AsksFor command.task command.choices.options shelf.held) work is.asks_for in
+    asked_for named shelf.held wanted (works.Query asked) work is in
     subst (λ n. IsRun n shelf empty note status text) (sym is.named_is) (answered asked.query asks
     (subst (λ i. IsSearchEnd (Tells i command.choices asked.query) command.choices asked.query note status text) made
     found))
@@ -75,19 +92,8 @@ module _ (named : Option AnyCommand) (shelf : Reads) (note : Note) (wanted : Wan
       → IsEnding (record { task = batch files; choices = wanted.command.choices }) shelf note note status text)
       → IsRun named shelf note note status text
   list_run ends =
-      subst (λ n. IsRun n shelf note note status text) (sym is.named_is)
-      (of_task (task_read wanted.command.task) (subst (AsksFor (task_read wanted.command.task)
-      wanted.command.choices.options shelf.held) work is.asks_for))
-    where
-      of_task : (task : AnyTask) → AsksFor task wanted.command.choices.options shelf.held (works.List listed)
-          → IsEnding (record { task = task; choices = wanted.command.choices }) shelf note note status text
-      of_task (plan files) asks = absurd asks
-      of_task (gen input) asks = absurd asks
-      of_task (stages named) asks = absurd asks
-      of_task (check named) asks = absurd asks
-      of_task (dump files) asks = absurd asks
-      of_task (replay file) asks = absurd asks
-      of_task (batch files) asks = ends files asks
+      let (files, task, are) = asked_for named shelf.held wanted (works.List listed) work is in
+      task_run named shelf note note wanted status text is (batch files) task (ends files are)
 
   -- each line was answered
   pub answered_run : IsBatch listed.catalog wanted.command.choices listed.list.items status text
@@ -112,49 +118,27 @@ pub staged_run : (named : Option AnyCommand) (shelf : Reads) (note : Note) (want
     → IsStagedEnd staged.asked.query wanted.command.choices.capacity (stages_read staged.stages) status text
     → IsRun named shelf note note status text
 staged_run named shelf note wanted staged status text work is end =
-    subst (λ n. IsRun n shelf note note status text) (sym is.named_is)
-    (of_task (task_read wanted.command.task) (subst (AsksFor (task_read wanted.command.task)
-    wanted.command.choices.options shelf.held) work is.asks_for))
-  where
-    of_task : (task : AnyTask) → AsksFor task wanted.command.choices.options shelf.held (works.Stages staged)
-        → IsEnding (record { task = task; choices = wanted.command.choices }) shelf note note status text
-    of_task (plan files) asks = absurd asks
-    of_task (gen input) asks = absurd asks
-    of_task (stages named) asks = own_end (record {
+    let (names, task, asks) = asked_for named shelf.held wanted (works.Stages staged) work is in
+    task_run named shelf note note wanted status text is (stages names) task (own_end (record {
       query = staged.asked.query;
       asks = asks.asks;
       end = subst (λ some. IsStagedEnd staged.asked.query wanted.command.choices.capacity some status text)
           asks.stages_are end;
-    }) refl
-    of_task (check named) asks = absurd asks
-    of_task (dump files) asks = absurd asks
-    of_task (replay file) asks = absurd asks
-    of_task (batch files) asks = absurd asks
+    }) refl)
 
 -- a run that checked a text, which leaves the note as it was
 pub checked_run : (named : Option AnyCommand) (shelf : Reads) (note : Note) (wanted : Wanted) (checked : Checked)
     (status : Status) (text : List ℕ) → wanted.work ≡ works.Check checked → IsWanted named shelf.held wanted
     → IsCheckEnd checked.asked.query checked.plan.items status text → IsRun named shelf note note status text
 checked_run named shelf note wanted checked status text work is end =
-    subst (λ n. IsRun n shelf note note status text) (sym is.named_is)
-    (of_task (task_read wanted.command.task) (subst (AsksFor (task_read wanted.command.task)
-    wanted.command.choices.options shelf.held) work is.asks_for))
-  where
-    of_task : (task : AnyTask) → AsksFor task wanted.command.choices.options shelf.held (works.Check checked)
-        → IsEnding (record { task = task; choices = wanted.command.choices }) shelf note note status text
-    of_task (plan files) asks = absurd asks
-    of_task (gen input) asks = absurd asks
-    of_task (stages named) asks = absurd asks
-    of_task (check named) asks = own_end (record {
+    let (names, task, asks) = asked_for named shelf.held wanted (works.Check checked) work is in
+    task_run named shelf note note wanted status text is (check names) task (own_end (record {
       query = checked.asked.query;
       asks = asks.asks;
       plan = checked.plan.items;
       told = asks.told;
       end = end;
-    }) refl
-    of_task (dump files) asks = absurd asks
-    of_task (replay file) asks = absurd asks
-    of_task (batch files) asks = absurd asks
+    }) refl)
 
 -- a command that one worker does asks for work that one does
 pub work_for_one : (named : Option AnyCommand) (held : List ℕ → Option (List ℕ)) (wanted : Wanted) → AsksForOne named
@@ -175,21 +159,14 @@ work_for_one named held wanted alone is =
     one_worker (replay file) for_one = for_one
     one_worker (batch files) for_one = for_one
 
-    never_staged : (task : AnyTask) (staged : InStages) → AsksInStages task choices.options held staged
-        → IsForOne task choices → ⊥
-    never_staged (plan files) staged asks for_one = asks
-    never_staged (gen input) staged asks for_one = asks
-    never_staged (stages named) staged asks for_one = for_one
-    never_staged (check named) staged asks for_one = asks
-    never_staged (dump files) staged asks for_one = asks
-    never_staged (replay file) staged asks for_one = asks
-    never_staged (batch files) staged asks for_one = asks
-
     of_work : (work : Work) → AsksFor (task_read wanted.command.task) choices.options held work
         → IsForOne (task_read wanted.command.task) choices → IsWorkForOne work choices.workers
     of_work (works.Query asked) asks for_one = one_worker (task_read wanted.command.task) for_one
-    of_work (works.Stages staged) asks for_one = never_staged (task_read wanted.command.task) staged asks for_one
+    of_work (works.Stages staged) (names, task, asks) for_one =
+        absurd (subst (λ k. IsForOne k choices) task for_one)
     of_work (works.Check checked) asks for_one = one_worker (task_read wanted.command.task) for_one
+    of_work (works.Dump dumped) asks for_one = one_worker (task_read wanted.command.task) for_one
+    of_work (works.Replay again) asks for_one = one_worker (task_read wanted.command.task) for_one
     of_work (works.List listed) asks for_one = one_worker (task_read wanted.command.task) for_one
 
 -- the end of a run that searched nothing, and left the note as it was

@@ -1,5 +1,5 @@
 -- With which statuses a run ends, and what each comes from.
-use Rattle.std.proofs.Common.{◌≡◌, List, [], ◌∷◌, ℕ, refl, inl, inr}
+use Rattle.std.proofs.Common.{◌≡◌, List, [], ◌∷◌, ℕ, None, refl, inl, inr}
 use Rattle.query_core.specs.declared.options.Options.{Options}
 use Rattle.query_core.specs.declared.query.Query.{Query}
 use Rattle.command_line.specs.Command.{FileNames, PlanNames, ListNames, AnyTask, AnyCommand}
@@ -7,16 +7,18 @@ use Rattle.command_line.specs.Command.{plan, gen, stages, check, dump, replay, b
 use Rattle.command_line.specs.declared.choices.Choices.{Choices}
 use Rattle.orca_cli.specs.Answers.{Note, IsSearchEnd, planned, unplanned, too_many}
 use Rattle.orca_cli.specs.Causes.{OneRose, ReadRose}
-use Rattle.orca_cli.specs.Causes.{IsNotThere}
+use Rattle.orca_cli.specs.DumpCauses.{IsOfDumps, writes_one, reads_one}
 use Rattle.orca_cli.specs.Checked.{IsCheckEnd, priced, faulty}
+use Rattle.orca_cli.specs.Dumps.{dump_options, replay_choices, IsDumpEnd, written, too_long}
 use Rattle.orca_cli.specs.Prepared.{Reads, generated_in, QueryStops, TaskStops, unread, unusable}
+use Rattle.orca_cli.specs.Prepared.{no_dump, no_query, over_none, over_catalog}
 use Rattle.orca_cli.specs.Prepared.{by_catalog, by_file, by_query, by_plan}
-use Rattle.orca_cli.specs.Run.{IsOwnEnd, IsEnding, answered, own_end, stopped}
+use Rattle.orca_cli.specs.Run.{IsOwnEnd, IsEnding, answered, from_dump, own_end, stopped}
 use Rattle.orca_cli.specs.Sections.{Tells}
 use Rattle.orca_cli.specs.Status.{IsOneOf, searched, finished}
 use Rattle.orca_cli.specs.declared.status.Status.{Status}
-use Rattle.orca_cli.specs.declared.status.Status.TheVariants.{Usage, QueryRefused, CatalogRefused}
-use Rattle.orca_cli.specs.declared.status.Status.TheVariants.{ReadFault, WriteFault, PlanRefused, BatchRefused}
+use Rattle.orca_cli.specs.declared.status.Status.TheVariants.{Usage, QueryRefused, CatalogRefused, BatchRefused}
+use Rattle.orca_cli.specs.declared.status.Status.TheVariants.{ReadFault, WriteFault, PlanRefused, DumpRefused}
 use Rattle.orca_cli.proofs.StagedEnds.{staged_status}
 
 -- ---- the statuses of endings
@@ -32,10 +34,10 @@ search_status Tells choices query note status text (too_many is more line count 
 pub data EndedBy (task : AnyTask) (shelf : Reads) (status : Status) : Type 0 where
   by_search : IsOneOf searched status → EndedBy task shelf status
   by_refusal : IsOneOf (QueryRefused ∷ CatalogRefused ∷ []) status → EndedBy task shelf status
+  by_dump : status ≡ DumpRefused → IsOfDumps task → EndedBy task shelf status
   by_list : status ≡ BatchRefused → (files : ListNames) → task ≡ batch files → EndedBy task shelf status
   by_fault : status ≡ ReadFault → ReadRose task shelf → EndedBy task shelf status
   by_plan_text : status ≡ PlanRefused → (named : PlanNames) → task ≡ check named → EndedBy task shelf status
-  by_words : status ≡ Usage → IsNotThere task → EndedBy task shelf status
 
 -- the files of a catalogue and of a query that the task reads
 query_stop_status : (task : AnyTask) (files : FileNames) (options : Options) (shelf : Reads) (status : Status)
@@ -62,8 +64,15 @@ stop_status (check named) choices shelf status text (by_query stop) =
 stop_status (check named) choices shelf status text (by_plan query asks (unread is)) = by_fault is.fault (inr is.rose)
 stop_status (check named) choices shelf status text (by_plan query asks (unusable bytes told why)) =
     by_plan_text why.refused named refl
-stop_status (dump files) choices shelf status text stop = by_words stop.0 tt
-stop_status (replay file) choices shelf status text stop = by_words stop.0 tt
+stop_status (dump files) choices shelf status text stop =
+    query_stop_status (dump files) files choices.options shelf status text (λ rose. rose) stop
+stop_status (replay file) choices shelf status text (unread is) = by_fault is.fault is.rose
+stop_status (replay file) choices shelf status text (unusable bytes told (no_dump is)) =
+    by_dump is.refused (reads_one file refl)
+stop_status (replay file) choices shelf status text (unusable bytes told (no_query of_bytes says (over_none none))) =
+    by_refusal (inr (inl none.refused))
+stop_status (replay file) choices shelf status text
+    (unusable bytes told (no_query of_bytes says (over_catalog catalog read why))) = by_refusal (inl why.refused)
 stop_status (batch files) choices shelf status text (by_catalog (unread is)) = by_fault is.fault (inl is.rose)
 stop_status (batch files) choices shelf status text (by_catalog (unusable bytes told none)) =
     by_refusal (inr (inl none.refused))
@@ -72,7 +81,7 @@ stop_status (batch files) choices shelf status text (by_file catalog offers (unr
 stop_status (batch files) choices shelf status text (by_file catalog offers (unusable bytes told why)) =
     by_list why.refused files refl
 
--- stages end as a search, and a batch and the check of a valid plan as one that found a plan
+-- stages end as a search; a batch, a dump and the check of a valid plan as one that found a plan
 own_status : (task : AnyTask) (choices : Choices) (shelf : Reads) (status : Status) (text : List ℕ)
     → IsOwnEnd task choices shelf.held status text → EndedBy task shelf status
 own_status (plan files) choices shelf status text own = absurd own
@@ -84,7 +93,12 @@ own_status (check named) choices shelf status text own = of_end own.end
     of_end : IsCheckEnd own.query own.plan status text → EndedBy (check named) shelf status
     of_end (priced is cost good line) = by_search (inl is)
     of_end (faulty is fault lasts has line) = by_plan_text is named refl
-own_status (dump files) choices shelf status text own = absurd own
+own_status (dump files) choices shelf status text own = of_end own.ends
+  where
+    of_end : IsDumpEnd own.select own.catalog own.asked (dump_options choices) status text
+        → EndedBy (dump files) shelf status
+    of_end (written is within says) = by_search (inl is)
+    of_end (too_long is long line) = by_dump is (writes_one files refl)
 own_status (replay file) choices shelf status text own = absurd own
 own_status (batch files) choices shelf status text own = by_search (inl own.is_batch.done)
 
@@ -100,25 +114,28 @@ pub ended_by : (command : AnyCommand) (shelf : Reads) (empty note : Note) (statu
 ended_by command shelf empty note status text (answered query asks found) =
     by_search (search_status (Tells (generated_in command.task) command.choices query) command.choices query note status
     text found)
+ended_by command shelf empty note status text (from_dump file task end) =
+    let chosen = replay_choices end.dump.options command.choices.workers in
+    by_search (search_status (Tells None chosen end.query) chosen end.query note status text end.ends)
 ended_by command shelf empty note status text (own_end own kept) =
     own_status command.task command.choices shelf status text own
 ended_by command shelf empty note status text (stopped stop kept) =
     stop_status command.task command.choices shelf status text stop
 
 module _ (task : AnyTask) (shelf : Reads) (status : Status) where
-  -- only a task that isn't there ends as other words do
-  pub usage_of : EndedBy task shelf status → status ≡ Usage → IsNotThere task
-  usage_of (by_search (inl is)) other = cc
-  usage_of (by_search (inr (inl is))) other = cc
-  usage_of (by_search (inr (inr (inl is)))) other = cc
-  usage_of (by_refusal (inl is)) other = cc
-  usage_of (by_refusal (inr (inl is))) other = cc
-  usage_of (by_search (inr (inr (inr none)))) other = absurd none
-  usage_of (by_refusal (inr (inr none))) other = absurd none
-  usage_of (by_list is files task) other = cc
-  usage_of (by_fault is rose) other = cc
-  usage_of (by_plan_text is named_files task) other = cc
-  usage_of (by_words is there) other = there
+  -- no run of a command has the status of other words
+  pub never_usage : EndedBy task shelf status → status ≡ Usage → ⊥
+  never_usage (by_search (inl is)) other = cc
+  never_usage (by_search (inr (inl is))) other = cc
+  never_usage (by_search (inr (inr (inl is)))) other = cc
+  never_usage (by_refusal (inl is)) other = cc
+  never_usage (by_refusal (inr (inl is))) other = cc
+  never_usage (by_search (inr (inr (inr none)))) other = absurd none
+  never_usage (by_refusal (inr (inr none))) other = absurd none
+  never_usage (by_list is files task) other = cc
+  never_usage (by_dump is of_dumps) other = cc
+  never_usage (by_fault is rose) other = cc
+  never_usage (by_plan_text is named_files task) other = cc
 
   -- nor of a sink that failed
   pub never_write : EndedBy task shelf status → status ≡ WriteFault → ⊥
@@ -130,9 +147,9 @@ module _ (task : AnyTask) (shelf : Reads) (status : Status) where
   never_write (by_search (inr (inr (inr none)))) other = absurd none
   never_write (by_refusal (inr (inr none))) other = absurd none
   never_write (by_list is files task) other = cc
+  never_write (by_dump is of_dumps) other = cc
   never_write (by_fault is rose) other = cc
   never_write (by_plan_text is named_files task) other = cc
-  never_write (by_words is there) other = cc
 
   -- that of a read fault has a count that rose
   pub read_rose : EndedBy task shelf status → status ≡ ReadFault → ReadRose task shelf
@@ -144,9 +161,9 @@ module _ (task : AnyTask) (shelf : Reads) (status : Status) where
   read_rose (by_search (inr (inr (inr none)))) fault = absurd none
   read_rose (by_refusal (inr (inr none))) fault = absurd none
   read_rose (by_list is files task) fault = cc
+  read_rose (by_dump is of_dumps) fault = cc
   read_rose (by_fault is rose) fault = rose
   read_rose (by_plan_text is named_files task) fault = cc
-  read_rose (by_words is there) fault = cc
 
   -- that of a refused list is a batch's
   pub list_of : EndedBy task shelf status → status ≡ BatchRefused → (files : ListNames) × (task ≡ batch files)
@@ -158,11 +175,11 @@ module _ (task : AnyTask) (shelf : Reads) (status : Status) where
   list_of (by_search (inr (inr (inr none)))) refused = absurd none
   list_of (by_refusal (inr (inr none))) refused = absurd none
   list_of (by_list is files task) refused = (files, task)
+  list_of (by_dump is of_dumps) refused = cc
   list_of (by_fault is rose) refused = cc
   list_of (by_plan_text is named_files task) refused = cc
-  list_of (by_words is there) refused = cc
 
-  -- and that of a text that is no plan is a check's
+  -- that of a text that is no plan is a check's
   pub plan_text_of : EndedBy task shelf status → status ≡ PlanRefused → (named : PlanNames) × (task ≡ check named)
   plan_text_of (by_search (inl is)) refused = cc
   plan_text_of (by_search (inr (inl is))) refused = cc
@@ -172,6 +189,20 @@ module _ (task : AnyTask) (shelf : Reads) (status : Status) where
   plan_text_of (by_search (inr (inr (inr none)))) refused = absurd none
   plan_text_of (by_refusal (inr (inr none))) refused = absurd none
   plan_text_of (by_list is files task) refused = cc
+  plan_text_of (by_dump is of_dumps) refused = cc
   plan_text_of (by_fault is rose) refused = cc
   plan_text_of (by_plan_text is named_files task) refused = (named_files, task)
-  plan_text_of (by_words is there) refused = cc
+
+  -- and that of a refused dump is one of dumps
+  pub dumps_of : EndedBy task shelf status → status ≡ DumpRefused → IsOfDumps task
+  dumps_of (by_search (inl is)) refused = cc
+  dumps_of (by_search (inr (inl is))) refused = cc
+  dumps_of (by_search (inr (inr (inl is)))) refused = cc
+  dumps_of (by_refusal (inl is)) refused = cc
+  dumps_of (by_refusal (inr (inl is))) refused = cc
+  dumps_of (by_search (inr (inr (inr none)))) refused = absurd none
+  dumps_of (by_refusal (inr (inr none))) refused = absurd none
+  dumps_of (by_list is files task) refused = cc
+  dumps_of (by_dump is of_dumps) refused = of_dumps
+  dumps_of (by_fault is rose) refused = cc
+  dumps_of (by_plan_text is named_files task) refused = cc

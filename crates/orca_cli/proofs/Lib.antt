@@ -4,12 +4,18 @@ pub mod Limits
 pub mod Refusals
 pub mod SectionTexts
 pub mod Files
+pub mod DumpRefusals
 pub mod Searching
 pub mod OneAnswer
 pub mod StagedEnds
 pub mod CheckedEnds
 pub mod EndingStatuses
+pub mod DumpedEnds
+pub mod DumpAnswers
+pub mod DumpStatuses
+pub mod HeldEnds
 pub mod Causes
+pub mod DumpCauses
 pub mod Ended
 pub mod ListLines
 pub mod LineEnds
@@ -17,5 +23,8 @@ pub mod StageLines
 pub mod Made
 pub mod FirstLines
 pub mod Outcomes
+pub mod BatchOutcomes
 pub mod StagedOutcomes
 pub mod CheckOutcomes
+pub mod NamedTables
+pub mod DumpOutcomes

@@ -24,7 +24,7 @@ use Rattle.orca_cli.specs.Generated.{IsGenerated}
 use Rattle.orca_cli.specs.Lists.{IsListRefused}
 use Rattle.orca_cli.specs.Prepared.{Reads, AreTold, Offers, FilesAsk, generated_in, IsQueryRefused}
 use Rattle.orca_cli.specs.Prepared.{unread, unusable, FilesStop, by_catalog, by_file}
-use Rattle.orca_cli.specs.Run.{IsEnding, answered, own_end, stopped}
+use Rattle.orca_cli.specs.Run.{IsEnding, answered, from_dump, own_end, stopped}
 use Rattle.orca_cli.specs.Sections.{Tells}
 use Rattle.orca_cli.specs.Staged.{IsStagedEnd}
 use Rattle.orca_cli.specs.Status.{IsOneOf, settled, overflowed}
@@ -58,7 +58,7 @@ some_catalog bytes cause catalog says none =
 module _ (catalog_name name : List ℕ) (shelf : Reads) (catalog : Catalog) (asked : List ℕ)
     (holds : Holds catalog_name name shelf.held catalog asked) where
   -- the catalogue that is offered is the one that is held
-  offered_there : (other : Catalog) → Offers (shelf.held catalog_name) other → other ≡ catalog
+  pub offered_there : (other : Catalog) → Offers (shelf.held catalog_name) other → other ≡ catalog
   offered_there other offers =
       let says : SaysCatalog holds.bytes other =
       subst (λ b. SaysCatalog b other)
@@ -96,6 +96,7 @@ pub answer_of : (files : FileNames) (choices : Choices) (shelf : Reads) (catalog
     → IsAnswer catalog choices asked note status text
 answer_of files choices shelf catalog asked holds note status text empty no_read (answered query asks search) =
     searched query (asked_there files choices.options shelf catalog asked holds query asks) search
+answer_of files choices shelf catalog asked holds note status text empty no_read (from_dump other task end) = cc
 answer_of files choices shelf catalog asked holds note status text empty no_read (own_end own kept) = absurd own
 answer_of files choices shelf catalog asked holds note status text empty no_read (stopped stop kept) =
     turned_down (refused_there files.catalog files.query shelf catalog asked holds
@@ -109,6 +110,7 @@ pub batch_of : (files : ListNames) (choices : Choices) (shelf : Reads) (catalog 
     → IsListRefused choices.capacity list status text ⊎ IsBatch catalog choices list status text
 batch_of files choices shelf catalog list holds note status text empty no_read (answered query asks search) =
     absurd asks
+batch_of files choices shelf catalog list holds note status text empty no_read (from_dump other task end) = cc
 batch_of files choices shelf catalog list holds note status text empty no_read (own_end own kept) =
     let told = told_one (shelf.held files.list) own.list list own.told holds.text_told in
     inr (subst (λ k. IsBatch k choices list status text)
@@ -128,6 +130,7 @@ pub staged_of : (named : StageNames) (choices : Choices) (shelf : Reads) (catalo
     × IsStagedEnd query choices.capacity named.stages status text)
 staged_of named choices shelf catalog asked holds note status text empty no_read (answered query asks search) =
     absurd asks
+staged_of named choices shelf catalog asked holds note status text empty no_read (from_dump other task end) = cc
 staged_of named choices shelf catalog asked holds note status text empty no_read (own_end own kept) =
     inr (own.query, asked_there named.files choices.options shelf catalog asked holds own.query own.asks, own.end)
 staged_of named choices shelf catalog asked holds note status text empty no_read (stopped stop kept) =
@@ -212,6 +215,7 @@ sure_search one (plan files) choices shelf empty note status text query sure no_
 sure_search one (gen input) choices shelf empty note status text query made no_read (answered other again search) =
     subst (λ r. IsSearchEnd (Tells (Some input) choices r) choices r note status text)
     (one_generated one input choices.options other query again made) search
+sure_search one (gen input) choices shelf empty note status text query made no_read (from_dump other task end) = cc
 sure_search one (gen input) choices shelf empty note status text query made no_read (own_end own kept) = absurd own
 sure_search one (gen input) choices shelf empty note status text query made no_read (stopped stop kept) = absurd stop
 sure_search one (stages named) choices shelf empty note status text query sure no_read ending = absurd sure

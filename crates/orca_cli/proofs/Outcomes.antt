@@ -1,6 +1,5 @@
 -- The outcome of a run is one, by the bytes of its files.
-use Rattle.std.proofs.Common.{◌≡◌, ℕ, List, [], ◌∷◌, ◌++◌, length, Option, None, Some, Err, sym, ap, ◌∙◌, subst, refl}
-use Rattle.std.proofs.Common.{inl, inr}
+use Rattle.std.proofs.Common.{◌≡◌, ℕ, List, Option, None, Some, Err, sym, ap, ◌∙◌, subst, refl, inl, inr}
 use Rattle.std.specs.List.{concat}
 use Rattle.query_core.specs.declared.catalog.Catalog.{Catalog}
 use Rattle.query_core.specs.declared.query.Query.{Query}
@@ -9,18 +8,15 @@ use Rattle.request_props.specs.Numbered.{IsWithinLimits}
 use Rattle.plan_space.specs.Nodes.{Tree}
 use Rattle.plan_space.specs.Least.{IsLeastPlan}
 use Rattle.plan_lines.specs.Text.{plan_section}
-use Rattle.command_line.specs.Command.{FileNames, ListNames, plan, gen, batch}
+use Rattle.command_line.specs.Command.{FileNames, plan, gen}
 use Rattle.command_line.specs.declared.choices.Choices.{Choices}
 use Rattle.orca_cli.specs.Asked.{SaysCatalog, IsNoCatalog, Asks}
 use Rattle.orca_cli.specs.Answers.{Note, IsPlanText, IsSearchEnd, planned, unplanned, too_many}
 use Rattle.orca_cli.specs.Answers.{IsAnswer, searched, turned_down}
-use Rattle.orca_cli.specs.Batches.{for_a_line, LineEnd, IsLineEnd, AreLineEnds, batch_line, texts_from, IsBatch}
-use Rattle.orca_cli.specs.Lists.{lines_of, IsListRefused}
 use Rattle.orca_cli.specs.Prepared.{reads, FilesStop, unread, unusable, by_catalog, by_file}
 use Rattle.orca_cli.specs.Prepared.{IsCatalogRefused, IsQueryRefused}
-use Rattle.orca_cli.specs.Run.{IsEnding, answered, own_end, stopped}
-use Rattle.orca_cli.specs.Laws.{Outcome, BatchOutcome, by, SameTexts, Same, OneOutcome, OneGenerated}
-use Rattle.orca_cli.specs.Laws.{OneBatch, LinesAsPlanned}
+use Rattle.orca_cli.specs.Run.{IsEnding, answered, from_dump, own_end, stopped}
+use Rattle.orca_cli.specs.Laws.{Outcome, by, SameTexts, Same, OneOutcome, OneGenerated}
 use Rattle.orca_cli.specs.Sections.{Tells}
 use Rattle.orca_cli.specs.Status.{IsOneOf, by_files}
 use Rattle.orca_cli.specs.Texts as texts
@@ -44,8 +40,8 @@ one_text one query other text again within same is other_is =
     is.lines ∙ ap (λ t. concat (plan_section query t)) tree ∙ sym here.lines
 
 -- what makes an outcome one
-record OneOf : Type 0 where
-  answer : OneAnswer
+pub record OneOf : Type 0 where
+  pub answer : OneAnswer
   least : OneLeast
   sections : OneSections
 
@@ -80,7 +76,7 @@ module _ (one : OneOf) (q : Query) (within : IsWithinLimits q) (choices : Choice
 module _ (one : OneOf) (catalog : Catalog) (choices : Choices) (workers more : ℕ) (asked : List ℕ) (note later : Note)
     (first second : Status) (text other : List ℕ) where
   -- two answers to one text over one catalogue are the same
-  same_answers : IsAnswer catalog (by workers choices) asked note first text
+  pub same_answers : IsAnswer catalog (by workers choices) asked note first text
       → IsAnswer catalog (by more choices) asked later second other → Same choices workers more first second text other
   same_answers (searched q asks is) (searched r asks_too is_too) =
       let same : q ≡ r = one_query one.answer.reading catalog choices.options asked one.answer.links q r asks.bound
@@ -107,7 +103,7 @@ module _ (one : OneOf) (catalog : Catalog) (choices : Choices) (workers more : �
       }
 
 -- how a run over known bytes ends
-data Known (bytes : List ℕ) (choices : Choices) (asked : List ℕ) (note : Note) (status : Status) (text : List ℕ) : Type 0
+pub data Known (bytes : List ℕ) (choices : Choices) (asked : List ℕ) (note : Note) (status : Status) (text : List ℕ) : Type 0
   where
     over : (catalog : Catalog) → SaysCatalog bytes catalog → IsAnswer catalog choices asked note status text
         → Known bytes choices asked note status text
@@ -123,7 +119,7 @@ never_fault status (inr (inr (inr (inr (inl is))))) fault = cc
 never_fault status (inr (inr (inr (inr (inr none))))) fault = absurd none
 
 -- what the shelf tells of both files
-known_of : (files : FileNames) (choices : Choices) (held : List ℕ → Option (List ℕ)) (bytes asked : List ℕ)
+pub known_of : (files : FileNames) (choices : Choices) (held : List ℕ → Option (List ℕ)) (bytes asked : List ℕ)
     (status : Status) (text : List ℕ) → (o : Outcome files choices held bytes asked status text)
     → IsEnding (record { task = plan files; choices = choices }) (reads held o.before o.after) o.empty o.note status text
     → Known bytes choices asked o.note status text
@@ -132,6 +128,7 @@ known_of files choices held bytes asked status text o (answered query asks searc
     (told_one (held files.catalog) asks.offers.bytes bytes asks.offers.told o.catalog_told) asks.offers.says)
     (searched query (subst (λ t. Asks asks.catalog choices.options t query)
     (told_one (held files.query) asks.asked.asked asked asks.asked.told o.query_told) asks.asked.asks) search)
+known_of files choices held bytes asked status text o (from_dump other task end) = cc
 known_of files choices held bytes asked status text o (own_end own kept) = absurd own
 known_of files choices held bytes asked status text o (stopped stop kept) = of_stop stop
   where
@@ -157,7 +154,7 @@ one_fault bytes cause other is again =
     let fault : is.fault ≡ again.fault = cc in
     is.caused ∙ ap texts.catalog_cause fault ∙ sym again.caused
 
-same_known : OneOf → (bytes : List ℕ) (choices : Choices) (workers more : ℕ) (asked : List ℕ) (note later : Note)
+pub same_known : OneOf → (bytes : List ℕ) (choices : Choices) (workers more : ℕ) (asked : List ℕ) (note later : Note)
     (first second : Status) (text other : List ℕ) → Known bytes (by workers choices) asked note first text
     → Known bytes (by more choices) asked later second other
     → Same choices workers more first second text other
@@ -180,7 +177,7 @@ same_known one bytes choices workers more asked note later first second text oth
     }
 
 -- what makes outcomes one, of their parts
-one_of : OneAnswer → OneSections → ((q : Query) (s t : Tree) → IsWithinLimits q → IsLeastPlan q s → IsLeastPlan q t
+pub one_of : OneAnswer → OneSections → ((q : Query) (s t : Tree) → IsWithinLimits q → IsLeastPlan q s → IsLeastPlan q t
     → s ≡ t) → OneOf
 unfolding OneLeast
 one_of answer sections least = record { answer = answer; least = least; sections = sections }
@@ -202,8 +199,10 @@ one_generated_of answer sections least input choices workers more first second t
         is.note again.note first second text other search
         (subst (λ q. IsSearchEnd (Tells (Some input) (by more choices) q) (by more choices) q again.note second other)
         (sym same) search_too)
+    of_endings (from_dump other task end) ending = cc
     of_endings (own_end own kept) ending = absurd own
     of_endings (stopped stop kept) ending = absurd stop
+    of_endings (answered q made search) (from_dump other task end) = cc
     of_endings (answered q made search) (own_end own kept) = absurd own
     of_endings (answered q made search) (stopped stop kept) = absurd stop
 
@@ -216,130 +215,3 @@ one_outcome_of answer sections least files others choices workers more held told
     second text other
     (known_of files (by workers choices) held bytes asked first text o o.ends)
     (known_of others (by more choices) told bytes asked second other again again.ends)
-
--- ---- batches
-
--- texts without lines by worker that are the same up to these
-equal_texts : (choices : Choices) (workers more : ℕ) (text other : List ℕ)
-    → SameTexts (for_a_line choices) workers more text other → text ≡ other
-equal_texts choices workers more text other same = same.whole ∙ ap (λ l. same.front ++ l) (same.are_lines.0
-    ∙ sym same.are_lines.1) ∙ sym same.other_whole
-
-module _ (one : OneOf) (catalog : Catalog) (choices : Choices) (workers more : ℕ) where
-  -- a line ends in one way
-  one_line : (line : List ℕ) (end other : LineEnd) → IsLineEnd catalog (by workers choices) line end
-      → IsLineEnd catalog (by more choices) line other → end ≡ other
-  one_line line end other is again =
-      let same = same_answers one catalog (for_a_line choices) 1 1 line is.note again.note end.status other.status
-      end.text other.text is.answer again.answer in
-      let texts = equal_texts choices 1 1 end.text other.text same.texts in
-      λ i. record { status = same.status i; text = texts i }
-
-  -- so do all lines
-  one_each : (lines : List (List ℕ)) (ends others : List LineEnd) → AreLineEnds catalog (by workers choices) lines ends
-      → AreLineEnds catalog (by more choices) lines others → ends ≡ others
-  one_each [] ends others is again = is ∙ sym again
-  one_each (line ∷ more_lines) [] others is again = absurd is
-  one_each (line ∷ more_lines) (end ∷ ends) [] is again = absurd again
-  one_each (line ∷ more_lines) (end ∷ ends) (other ∷ others) (first, rest) (first_too, rest_too) =
-      let same = one_line line end other first first_too in
-      let same_rest = one_each more_lines ends others rest rest_too in
-      λ i. same i ∷ same_rest i
-
--- how a batch over known bytes ends
-data KnownBatch (bytes : List ℕ) (choices : Choices) (list : List ℕ) (status : Status) (text : List ℕ) : Type 0 where
-  with_answers : (catalog : Catalog) → SaysCatalog bytes catalog → IsBatch catalog choices list status text
-      → KnownBatch bytes choices list status text
-  without_list : (catalog : Catalog) → SaysCatalog bytes catalog → IsListRefused choices.capacity list status text
-      → KnownBatch bytes choices list status text
-  without_catalog : IsCatalogRefused bytes status text → KnownBatch bytes choices list status text
-
--- what the shelf tells of both files
-known_batch : (files : ListNames) (choices : Choices) (held : List ℕ → Option (List ℕ)) (bytes list : List ℕ)
-    (status : Status) (text : List ℕ) → (o : BatchOutcome files choices held bytes list status text)
-    → IsEnding (record { task = batch files; choices = choices }) (reads held o.before o.after) o.empty o.note status
-    text → KnownBatch bytes choices list status text
-known_batch files choices held bytes list status text o (answered query asks search) = absurd asks
-known_batch files choices held bytes list status text o (own_end own kept) =
-    with_answers own.catalog (subst (λ b. SaysCatalog b own.catalog)
-    (told_one (held files.catalog) own.offers.bytes bytes own.offers.told o.catalog_told) own.offers.says)
-    (subst (λ l. IsBatch own.catalog choices l status text)
-    (told_one (held files.list) own.list list own.told o.list_told) own.is_batch)
-known_batch files choices held bytes list status text o (stopped stop kept) = of_stop stop
-  where
-    of_stop : FilesStop (λ k. IsListRefused choices.capacity) files.catalog files.list (reads held o.before o.after)
-        status text → KnownBatch bytes choices list status text
-    of_stop (by_catalog (unread is)) = absurd (o.were_read is.fault)
-    of_stop (by_catalog (unusable other told none)) =
-        without_catalog (subst (λ b. IsCatalogRefused b status text)
-        (told_one (held files.catalog) other bytes told o.catalog_told) none)
-    of_stop (by_file catalog offers (unread is)) = absurd (o.were_read is.fault)
-    of_stop (by_file catalog offers (unusable other told why)) =
-        without_list catalog (subst (λ b. SaysCatalog b catalog)
-        (told_one (held files.catalog) offers.bytes bytes offers.told o.catalog_told) offers.says)
-        (subst (λ l. IsListRefused choices.capacity l status text)
-        (told_one (held files.list) other list told o.list_told) why)
-
-module _ (one : OneOf) (bytes : List ℕ) (choices : Choices) (workers more : ℕ) (list : List ℕ) (first second : Status)
-    (text other : List ℕ) where
-  -- two batches over one catalogue
-  same_batches : (catalog : Catalog) → IsBatch catalog (by workers choices) list first text
-      → IsBatch catalog (by more choices) list second other → (first ≡ second) × (text ≡ other)
-  same_batches catalog is again = (
-    is.done ∙ sym again.done,
-    is.is_text ∙ ap (λ ends. batch_line (length (lines_of list)) ++ texts_from 0 ends)
-        (one_each one catalog choices workers more (lines_of list) is.ends again.ends is.are_ends again.are_ends)
-        ∙ sym again.is_text,
-  )
-
-  -- two refusals of one list
-  same_refusals : IsListRefused choices.capacity list first text → IsListRefused choices.capacity list second other
-      → (first ≡ second) × (text ≡ other)
-  same_refusals is again =
-      let caused = is.caused in
-      let caused_again = again.caused in
-      let cause : is.cause ≡ again.cause = cc in
-      (is.refused ∙ sym again.refused, is.line ∙ ap texts.batch_refused cause ∙ sym again.line)
-
-  -- what is known of two batches over the same bytes is the same
-  same_known_batches : KnownBatch bytes (by workers choices) list first text
-      → KnownBatch bytes (by more choices) list second other → (first ≡ second) × (text ≡ other)
-  same_known_batches (with_answers k says is) (with_answers l says_too is_too) =
-      same_batches k is (subst (λ c. IsBatch c (by more choices) list second other)
-      (one_catalog bytes l k says_too says) is_too)
-  same_known_batches (with_answers k says is) (without_list l says_too why) =
-      let caused = why.caused in let usable = is.usable in cc
-  same_known_batches (with_answers k says is) (without_catalog none) =
-      absurd (some_catalog bytes none.cause k says none.no_catalog)
-  same_known_batches (without_list k says why) (with_answers l says_too is_too) =
-      let caused = why.caused in let usable = is_too.usable in cc
-  same_known_batches (without_list k says why) (without_list l says_too why_too) = same_refusals why why_too
-  same_known_batches (without_list k says why) (without_catalog none) =
-      absurd (some_catalog bytes none.cause k says none.no_catalog)
-  same_known_batches (without_catalog none) (with_answers l says_too is_too) =
-      absurd (some_catalog bytes none.cause l says_too none.no_catalog)
-  same_known_batches (without_catalog none) (without_list l says_too why) =
-      absurd (some_catalog bytes none.cause l says_too none.no_catalog)
-  same_known_batches (without_catalog none) (without_catalog again) = (
-    none.refused ∙ sym again.refused,
-    none.line ∙ ap texts.catalog_refused (one_fault bytes none.cause again.cause none.no_catalog again.no_catalog)
-        ∙ sym again.line,
-  )
-
--- two batches over the same bytes have one outcome
-pub one_batch_of : OneAnswer → OneSections
-    → ((q : Query) (s t : Tree) → IsWithinLimits q → IsLeastPlan q s → IsLeastPlan q t → s ≡ t) → OneBatch
-one_batch_of answer sections least files others choices workers more held told bytes list first second text other o
-    again =
-    same_known_batches (one_of answer sections least) bytes choices workers more list first second text other
-    (known_batch files (by workers choices) held bytes list first text o o.ends)
-    (known_batch others (by more choices) told bytes list second other again again.ends)
-
--- a line of a batch ends as a plan of it
-pub lines_as_planned : OneAnswer → OneSections
-    → ((q : Query) (s t : Tree) → IsWithinLimits q → IsLeastPlan q s → IsLeastPlan q t → s ≡ t) → LinesAsPlanned
-lines_as_planned answer sections least files choices workers held bytes line catalog end status text says is o =
-    let same = same_known (one_of answer sections least) bytes (for_a_line choices) 1 workers line is.note o.note
-    end.status status end.text text (over catalog says is.answer)
-    (known_of files (by workers (for_a_line choices)) held bytes line status text o o.ends) in
-    (same.status, equal_texts choices 1 workers end.text text same.texts)

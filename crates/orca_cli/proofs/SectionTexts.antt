@@ -107,6 +107,14 @@ same_texts choices workers more text other same = record {
   are_lines = no_lines choices.by_worker workers more;
 }
 
+-- texts that are one up to the lines by worker are the same where these aren't asked for
+pub equal_texts : (choices : Choices) (workers more : ℕ) (text other : List ℕ) → choices.by_worker ≡ false
+    → SameTexts choices workers more text other → text ≡ other
+equal_texts choices workers more text other plain same =
+    let none : AreLines false workers more same.lines same.others =
+    subst (λ asked. AreLines asked workers more same.lines same.others) plain same.are_lines in
+    same.whole ∙ ap (λ l. same.front ++ l) (none.0 ∙ sym none.1) ∙ sym same.other_whole
+
 -- a query has one first line of the memo
 memo_line_one : OneSections → (q : Query) (line other : List ℕ) → StartsMemo q line → StartsMemo q other → line ≡ other
 memo_line_one one q line other is again =

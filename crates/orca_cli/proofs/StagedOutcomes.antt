@@ -11,7 +11,7 @@ use Rattle.orca_cli.specs.Asked.{SaysCatalog, Asks}
 use Rattle.orca_cli.specs.Laws.{StagesOutcome, by, OneStages, BindsOnce}
 use Rattle.orca_cli.specs.Prepared.{reads, QueryStops, unread, unusable, by_catalog, by_file, IsCatalogRefused}
 use Rattle.orca_cli.specs.Prepared.{IsQueryRefused}
-use Rattle.orca_cli.specs.Run.{IsEnding, answered, own_end, stopped}
+use Rattle.orca_cli.specs.Run.{IsEnding, answered, from_dump, own_end, stopped}
 use Rattle.orca_cli.specs.Staged.{IsStagedEnd}
 use Rattle.orca_cli.specs.Texts as texts
 use Rattle.orca_cli.specs.declared.status.Status.{Status}
@@ -36,6 +36,7 @@ known_of : (named : StageNames) (choices : Choices) (held : List ℕ → Option 
     → IsEnding (record { task = stages named; choices = choices }) (reads held o.before o.after) o.empty o.note status
     text → Known bytes choices asked named.stages status text
 known_of named choices held bytes asked status text o (answered query asks search) = absurd asks
+known_of named choices held bytes asked status text o (from_dump other task end) = cc
 known_of named choices held bytes asked status text o (own_end own kept) =
     with_query own.asks.catalog (subst (λ b. SaysCatalog b own.asks.catalog)
     (told_one (held named.files.catalog) own.asks.offers.bytes bytes own.asks.offers.told o.catalog_told)

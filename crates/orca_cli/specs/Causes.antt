@@ -1,5 +1,5 @@
 -- When a run is sure to be answered, and which causes its status has.
-use Rattle.std.specs.Prelude.{◌≡◌, ◌≢◌, ◌⊎◌, ℕ, ⊤, List, Option, None, Some, map}
+use Rattle.std.specs.Prelude.{◌≡◌, ◌≢◌, ◌⊎◌, ℕ, List, Option, None, Some, map}
 use Rattle.std.specs.List.{All}
 use Rattle.orca_base.specs.Causes.{Rose}
 use Rattle.query_core.specs.declared.catalog.Catalog.{Catalog}
@@ -22,8 +22,8 @@ use Rattle.orca_cli.specs.Generated.{IsGenerated}
 use Rattle.orca_cli.specs.Lists.{list_cause}
 use Rattle.orca_cli.specs.Prepared.{Reads}
 use Rattle.orca_cli.specs.Run.{IsRun, Puts, Ends}
-use Rattle.orca_cli.specs.Status.{IsOneOf, settled, overflowed, turned_down, finished, listed, list_refused}
-use Rattle.orca_cli.specs.Status.{plan_accepted, plan_turned_down}
+use Rattle.orca_cli.specs.Status.{IsOneOf, settled, overflowed, turned_down, finished, served, list_refused}
+use Rattle.orca_cli.specs.Status.{plan_turned_down}
 use Rattle.orca_cli.specs.declared.status.Status.{Status}
 use Rattle.orca_cli.specs.declared.status.Status.TheVariants.{Usage, ReadFault, WriteFault, PlanRefused, BatchRefused}
 
@@ -83,7 +83,7 @@ query_files (plan files) = Some files
 query_files (gen input) = None
 query_files (stages named) = Some named.files
 query_files (check named) = Some named.files
-query_files (dump files) = None
+query_files (dump files) = Some files
 query_files (replay file) = None
 query_files (batch files) = None
 
@@ -99,29 +99,14 @@ ReadRose (gen input) shelf = ⊥
 ReadRose (stages named) shelf = OneRose shelf named.files.catalog named.files.query
 ReadRose (check named) shelf =
     OneRose shelf named.files.catalog named.files.query ⊎ Rose (shelf.before named.plan) (shelf.after named.plan)
-ReadRose (dump files) shelf = ⊥
-ReadRose (replay file) shelf = ⊥
+ReadRose (dump files) shelf = OneRose shelf files.catalog files.query
+ReadRose (replay file) shelf = Rose (shelf.before file) (shelf.after file)
 ReadRose (batch files) shelf = OneRose shelf files.catalog files.list
 
 -- no count of faults rose, of no file of the task and not the sink's
 pub record HasNoFault (task : AnyTask) (shelf : Reads) (sink : Puts) : Type 0 where
   pub reads : ReadRose task shelf → ⊥
   pub writes : Rose sink.before sink.after → ⊥
-
--- the task is one that isn't there yet
-abbrev pub IsNotThere : AnyTask → Type 0
-IsNotThere (plan files) = ⊥
-IsNotThere (gen input) = ⊥
-IsNotThere (stages named) = ⊥
-IsNotThere (check named) = ⊥
-IsNotThere (dump files) = ⊤
-IsNotThere (replay file) = ⊤
-IsNotThere (batch files) = ⊥
-
--- the words are no command, or they are one that isn't there yet
-abbrev pub IsNoTask : Option AnyCommand → Type 0
-IsNoTask None = ⊤
-IsNoTask (Some command) = IsNotThere command.task
 
 -- ---- completeness
 
@@ -142,7 +127,7 @@ HaveRoom query capacity asked = (some : List Stage) → map stage_read some ≡ 
 pub record HasCauses (named : Option AnyCommand) (shelf : Reads) (sink : Puts) (status : Status) : Type 0 where
   pub completes : Completes named shelf sink status
   -- what an answer other than that of a search comes from
-  pub usage : status ≡ Usage → IsNoTask named
+  pub usage : status ≡ Usage → named ≡ None
   pub read_fault : status ≡ ReadFault → (command : AnyCommand) × (named ≡ Some command) × ReadRose command.task shelf
   pub write_fault : status ≡ WriteFault → Rose sink.before sink.after
   -- a query with more entries than the capacity is told so, where there is no fault
@@ -174,7 +159,7 @@ pub record HasCauses (named : Option AnyCommand) (shelf : Reads) (sink : Puts) (
   pub accepts_plan : (command : AnyCommand) (named_files : PlanNames) (query : Query) (text : List ℕ) (cost : ℕ)
       → named ≡ Some command → command.task ≡ check named_files
       → HoldsPlan named_files command.choices.options shelf.held query text → IsGoodText query text cost
-      → HasNoFault command.task shelf sink → IsOneOf plan_accepted status
+      → HasNoFault command.task shelf sink → IsOneOf served status
   -- a text with a fault is refused
   pub refuses_plan : (command : AnyCommand) (named_files : PlanNames) (query : Query) (text : List ℕ) (fault : TextFault)
       → named ≡ Some command → command.task ≡ check named_files
@@ -186,7 +171,7 @@ pub record HasCauses (named : Option AnyCommand) (shelf : Reads) (sink : Puts) (
   -- a list that isn't refused has a status for each line
   pub lists : (command : AnyCommand) (files : ListNames) → named ≡ Some command → command.task ≡ batch files
       → HoldsList files command.choices.capacity shelf.held None → HasNoFault command.task shelf sink
-      → IsOneOf listed status
+      → IsOneOf served status
   -- a list with a cause of refusal is refused
   pub refuses_list : (command : AnyCommand) (files : ListNames) (cause : List ℕ) → named ≡ Some command
       → command.task ≡ batch files → HoldsList files command.choices.capacity shelf.held (Some cause)

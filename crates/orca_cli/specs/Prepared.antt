@@ -1,17 +1,21 @@
 -- What a command asks for, and how a run ends that searches nothing.
-use Rattle.std.specs.Prelude.{◌≡◌, ℕ, List, Option, None, Some, IfSome}
+use Rattle.std.specs.Prelude.{◌≡◌, ℕ, List, Option, None, Some, IfSome, Ok}
 use Rattle.orca_base.specs.Causes.{Rose}
 use Rattle.query_core.specs.declared.catalog.Catalog.{Catalog}
 use Rattle.query_core.specs.declared.options.Options.{Options}
 use Rattle.query_core.specs.declared.query.Query.{Query}
 use Rattle.text_check.specs.Outcome.{IsTooLong}
 use Rattle.text_check.specs.declared.text_fault.TextFault.TheVariants.{TooLong}
-use Rattle.command_line.specs.Command.{FileNames, PlanNames, AnyTask, AnyCommand, plan, gen, stages, check, dump, replay, batch}
+use Rattle.dump_replay.specs.Dumps.{IsReadAs}
+use Rattle.dump_replay.specs.declared.dump.Dump.{Dump}
+use Rattle.command_line.specs.Command.{FileNames, PlanNames, AnyTask, AnyCommand}
+use Rattle.command_line.specs.Command.{plan, gen, stages, check, dump, replay, batch}
 use Rattle.command_line.specs.declared.choices.Choices.{Choices}
 use Rattle.command_line.specs.declared.command.GenInput.{GenInput}
 use Rattle.orca_cli.specs.Asked.{SaysCatalog, IsNoCatalog, Asks, IsRefused}
 use Rattle.orca_cli.specs.Generated.{IsGenerated}
 use Rattle.orca_cli.specs.Lists.{IsListRefused}
+use Rattle.orca_cli.specs.Replays.{IsDumpRefused}
 use Rattle.orca_cli.specs.Texts as texts
 use Rattle.orca_cli.specs.declared.status.Status.{Status}
 use Rattle.orca_cli.specs.declared.status.Status.TheVariants.{Usage, QueryRefused, CatalogRefused, ReadFault, PlanRefused}
@@ -107,6 +111,18 @@ pub record IsQueryRefused (catalog : Catalog) (options : Options) (bytes : List 
   pub no_query : IsRefused catalog options bytes cause
   pub line : text ≡ texts.query_refused cause
 
+-- a dump asks for no query: its catalogue is none, or its query is refused over it
+pub data AsksNothing (dump : Dump) (status : Status) (text : List ℕ) : Type 0 where
+  over_none : IsCatalogRefused dump.catalog status text → AsksNothing dump status text
+  over_catalog : (catalog : Catalog) → SaysCatalog dump.catalog catalog
+      → IsQueryRefused catalog dump.options.options dump.query status text → AsksNothing dump status text
+
+-- the bytes are no dump, or one that asks for no query
+pub data IsReplayRefused (bytes : List ℕ) (status : Status) (text : List ℕ) : Type 0 where
+  no_dump : IsDumpRefused bytes status text → IsReplayRefused bytes status text
+  no_query : (dump : Dump) → IsReadAs bytes (Ok dump) → AsksNothing dump status text
+      → IsReplayRefused bytes status text
+
 -- the count of the name's faults rose, and the text names it
 pub record IsReadFault (name : List ℕ) (shelf : Reads) (status : Status) (text : List ℕ) : Type 0 where
   pub fault : status ≡ ReadFault
@@ -152,8 +168,8 @@ TaskStops (plan files) choices shelf status text = QueryStops files choices.opti
 TaskStops (gen input) choices shelf status text = ⊥
 TaskStops (stages named) choices shelf status text = QueryStops named.files choices.options shelf status text
 TaskStops (check named) choices shelf status text = CheckStops named choices.options shelf status text
-TaskStops (dump files) choices shelf status text = IsUsage status text
-TaskStops (replay file) choices shelf status text = IsUsage status text
+TaskStops (dump files) choices shelf status text = QueryStops files choices.options shelf status text
+TaskStops (replay file) choices shelf status text = FileStops IsReplayRefused file shelf status text
 TaskStops (batch files) choices shelf status text =
     FilesStop (λ catalog. IsListRefused choices.capacity) files.catalog files.list shelf status text
 

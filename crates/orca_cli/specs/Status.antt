@@ -2,7 +2,8 @@
 use Rattle.std.specs.Prelude.{ℕ, List, [], ◌∷◌, ◌≡◌, ◌⊎◌}
 use Rattle.orca_cli.specs.declared.status.Status.{Status}
 use Rattle.orca_cli.specs.declared.status.Status.TheVariants.{Planned, NoPlan, Usage, QueryRefused, CatalogRefused}
-use Rattle.orca_cli.specs.declared.status.Status.TheVariants.{TooManyEntries, ReadFault, WriteFault, Memory, PlanRefused, BatchRefused}
+use Rattle.orca_cli.specs.declared.status.Status.TheVariants.{TooManyEntries, ReadFault, WriteFault, Memory, PlanRefused}
+use Rattle.orca_cli.specs.declared.status.Status.TheVariants.{DumpRefused, BatchRefused}
 
 -- the number with which the program ends
 abbrev pub number_of : Status → ℕ
@@ -16,6 +17,7 @@ number_of ReadFault = 6
 number_of WriteFault = 7
 number_of Memory = 8
 number_of PlanRefused = 9
+number_of DumpRefused = 10
 number_of BatchRefused = 11
 
 -- the status is one of these
@@ -45,15 +47,15 @@ overflowed = TooManyEntries ∷ Memory ∷ []
 abbrev pub turned_down : List Status
 turned_down = QueryRefused ∷ Memory ∷ []
 
--- each line of a list has its status, or memory ran out
-abbrev pub listed : List Status
-listed = Planned ∷ Memory ∷ []
+-- a dump is written, each line of a list has its status, or a text is a valid plan; or memory ran out
+abbrev pub served : List Status
+served = Planned ∷ Memory ∷ []
 
--- the text is a valid plan, or memory ran out
-abbrev pub plan_accepted : List Status
-plan_accepted = Planned ∷ Memory ∷ []
+-- a dump is refused, or memory ran out
+abbrev pub undumped : List Status
+undumped = DumpRefused ∷ Memory ∷ []
 
--- it is none, or memory ran out
+-- the text is no valid plan, or memory ran out
 abbrev pub plan_turned_down : List Status
 plan_turned_down = PlanRefused ∷ Memory ∷ []
 

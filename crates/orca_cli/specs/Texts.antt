@@ -8,13 +8,15 @@ use Rattle.sql_reader.specs.declared.faults.SqlFault.{SqlFault}
 use Rattle.sql_reader.specs.declared.faults.SqlFault.TheVariants as selects
 use Rattle.sql_bind.specs.declared.fault.BindFault.{BindFault}
 use Rattle.sql_bind.specs.declared.fault.BindFault.TheVariants as names
+use Rattle.dump_replay.specs.declared.dump.DumpFault.{DumpFault}
+use Rattle.dump_replay.specs.declared.dump.DumpFault.TheVariants as dumps
 use Rattle.request_props.specs.declared.fault.PropsFault.{PropsFault}
 use Rattle.request_props.specs.declared.fault.PropsFault.TheVariants.{TooManyLists, TooManyOrders, Memory}
 use Rattle.text_check.specs.declared.text_fault.TextFault.{TextFault}
 use Rattle.text_check.specs.declared.text_fault.TextFault.TheVariants as plans
 
 abbrev pub usage_line : List ℕ
-usage_line = codes "usage: orca plan CATALOG QUERY [--workers N] [--capacity N] [--root one|spread] [--off RULE+RULE] [--memo] [--trace] [--by-worker] | orca gen NUMBER TABLES SHAPE [--workers N] [--capacity N] | orca stages CATALOG QUERY STAGES [--workers N] [--capacity N] [--root one|spread] | orca check CATALOG QUERY PLAN [--root one|spread] [--off RULE+RULE] | orca batch CATALOG LIST [--workers N] [--capacity N] [--root one|spread] [--off RULE+RULE] [--memo] [--trace]\n"
+usage_line = codes "usage: orca plan CATALOG QUERY [--workers N] [--capacity N] [--root one|spread] [--off RULE+RULE] [--memo] [--trace] [--by-worker] | orca gen NUMBER TABLES SHAPE [--workers N] [--capacity N] | orca stages CATALOG QUERY STAGES [--workers N] [--capacity N] [--root one|spread] | orca check CATALOG QUERY PLAN [--root one|spread] [--off RULE+RULE] | orca dump CATALOG QUERY [--capacity N] [--root one|spread] [--off RULE+RULE] [--memo] [--trace] | orca replay DUMP [--workers N] | orca batch CATALOG LIST [--workers N] [--capacity N] [--root one|spread] [--off RULE+RULE] [--memo] [--trace]\n"
 
 -- the line that names a file that couldn't be read
 abbrev pub read_fault : List ℕ → List ℕ
@@ -42,6 +44,10 @@ valid_plan cost = codes "valid cost " ++ decimal cost ++ codes "\n"
 -- the line of a text that is no valid plan
 abbrev pub plan_refused : List ℕ → List ℕ
 plan_refused cause = codes "plan refused: " ++ cause ++ codes "\n"
+
+-- the line of a refused dump
+abbrev pub dump_refused : List ℕ → List ℕ
+dump_refused cause = codes "dump refused: " ++ cause ++ codes "\n"
 
 -- the line of a refused list of queries
 abbrev pub batch_refused : List ℕ → List ℕ
@@ -102,3 +108,9 @@ plan_cause (plans.Needs line) = codes "needs at line " ++ decimal line
 plan_cause plans.Request = codes "root request"
 plan_cause (plans.Number line) = codes "number at line " ++ decimal line
 plan_cause plans.Memory = []
+
+-- why there is no dump, with the number of the line; want of memory has no line
+abbrev pub dump_cause : DumpFault → List ℕ
+dump_cause dumps.TooLong = codes "too long"
+dump_cause (dumps.Line number) = codes "line " ++ decimal number
+dump_cause dumps.Memory = []

@@ -1,19 +1,27 @@
 -- What clauses see of the program's values.
-use Rattle.std.specs.Prelude.{◌≡◌, ◌≤◌, ℕ, ⊤, List, Option, Some, Vec, flat_map, length, map}
+use Rattle.std.specs.Prelude.{◌≡◌, ◌≤◌, ℕ, ⊤, List, Option, Some, Ok, Vec, flat_map, length, map}
 use Rattle.std.specs.Borrow.{Bor}
 use Rattle.std.specs.declared.alloc.Global.{Global}
 use Rattle.query_core.specs.Catalog.{IsCatalog}
+use Rattle.query_core.specs.declared.catalog.Catalog.{Catalog}
 use Rattle.query_core.specs.declared.options.Options.{Options}
 use Rattle.query_core.specs.declared.query.Query.{Query}
+use Rattle.sql_reader.specs.Faults.{IsReading}
 use Rattle.request_props.specs.Numbered.{IsProps}
-use Rattle.command_line.specs.Command.{StageNames, PlanNames, ListNames, AnyTask, AnyCommand}
-use Rattle.command_line.specs.Command.{plan, gen, stages, check, dump, replay, batch}
+use Rattle.dump_replay.specs.Dumps.{AreDumpOptions, IsReadAs}
+use Rattle.dump_replay.specs.declared.dump.Dump.{Dump}
+use Rattle.command_line.specs.Command.{FileNames, StageNames, PlanNames, ListNames, AnyTask, AnyCommand}
+use Rattle.command_line.specs.Command.{stages, check, dump, replay, batch}
 use Rattle.command_line.specs.HeldStages.{stages_read}
 use Rattle.command_line.specs.Views.{command_read}
+use Rattle.orca_cli.specs.Asked.{Asks}
 use Rattle.orca_cli.specs.Batches.{LineEnd}
+use Rattle.orca_cli.specs.Dumps.{DumpAsks}
 use Rattle.orca_cli.specs.Prepared.{AreTold, Offers, FilesAsk, IsAskedBy}
 use Rattle.orca_cli.specs.declared.asked.Asked.{Asked}
 use Rattle.orca_cli.specs.declared.asked.Checked.{Checked}
+use Rattle.orca_cli.specs.declared.asked.Dumped.{Dumped}
+use Rattle.orca_cli.specs.declared.asked.Replayed.{Replayed}
 use Rattle.orca_cli.specs.declared.asked.InStages.{InStages}
 use Rattle.orca_cli.specs.declared.asked.Listed.{Listed}
 use Rattle.orca_cli.specs.declared.asked.Wanted.{Wanted}
@@ -71,60 +79,83 @@ pub record AreStaged (named : StageNames) (options : Options) (held : List ℕ �
   pub asks : FilesAsk named.files options held staged.asked.query
   pub stages_are : stages_read staged.stages ≡ named.stages
 
--- the task asks that this query be planned in these stages
-abbrev pub AsksInStages : AnyTask → Options → (List ℕ → Option (List ℕ)) → InStages → Type 0
-AsksInStages (plan files) options held staged = ⊥
-AsksInStages (gen input) options held staged = ⊥
-AsksInStages (stages named) options held staged = AreStaged named options held staged
-AsksInStages (check named) options held staged = ⊥
-AsksInStages (dump files) options held staged = ⊥
-AsksInStages (replay file) options held staged = ⊥
-AsksInStages (batch files) options held staged = ⊥
-
 -- a query is the one for which two files ask, and a text that of a third one
 pub record AreChecked (named : PlanNames) (options : Options) (held : List ℕ → Option (List ℕ)) (checked : Checked) :
     Type 0 where
   pub asks : FilesAsk named.files options held checked.asked.query
   pub told : AreTold (held named.plan) checked.plan.items
 
--- the task asks that this text be checked as a plan of this query
-abbrev pub AsksToCheck : AnyTask → Options → (List ℕ → Option (List ℕ)) → Checked → Type 0
-AsksToCheck (plan files) options held checked = ⊥
-AsksToCheck (gen input) options held checked = ⊥
-AsksToCheck (stages named) options held checked = ⊥
-AsksToCheck (check named) options held checked = AreChecked named options held checked
-AsksToCheck (dump files) options held checked = ⊥
-AsksToCheck (replay file) options held checked = ⊥
-AsksToCheck (batch files) options held checked = ⊥
+-- the text is read so over this catalogue, and isn't refused
+pub record IsDumpedOf (catalog : Catalog) (options : Options) (text : List ℕ) (dumped : Dumped) : Type 0 where
+  pub over : dumped.catalog ≡ catalog
+  pub of_text : dumped.query.items ≡ text
+  pub reading : IsReading text dumped.select
+  pub query : Query
+  pub asks : Asks catalog options text query
 
--- the task asks that each line of this list be searched
-abbrev pub AsksForList : AnyTask → (List ℕ → Option (List ℕ)) → Listed → Type 0
-AsksForList (plan files) held listed = ⊥
-AsksForList (gen input) held listed = ⊥
-AsksForList (stages named) held listed = ⊥
-AsksForList (check named) held listed = ⊥
-AsksForList (dump files) held listed = ⊥
-AsksForList (replay file) held listed = ⊥
-AsksForList (batch files) held listed = AreListed files held listed
+-- so is the text under a name
+pub record IsDumpedOver (catalog : Catalog) (options : Options) (held : Option (List ℕ)) (dumped : Dumped) : Type 0 where
+  pub text : List ℕ
+  pub told : AreTold held text
+  pub is_dumped : IsDumpedOf catalog options text dumped
 
--- the task asks for this work: the search of a query, a query planned in stages, the check of a text, or the search of
--- each line of a list
+-- so are two files
+pub record AreDumped (files : FileNames) (options : Options) (held : List ℕ → Option (List ℕ)) (dumped : Dumped) :
+    Type 0 where
+  pub catalog : Catalog
+  pub offers : Offers (held files.catalog) catalog
+  pub is_dumped : IsDumpedOver catalog options (held files.query) dumped
+
+-- the query is the one for which the dump asks that the bytes say, with what the dump chooses
+pub record IsReplayOf (bytes : List ℕ) (replayed : Replayed) : Type 0 where
+  pub dump : Dump
+  pub says : IsReadAs bytes (Ok dump)
+  pub chosen : replayed.options ≡ dump.options
+  pub asks : DumpAsks dump replayed.asked.query
+
+-- the bytes are those under a name
+pub record IsReplayed (held : Option (List ℕ)) (replayed : Replayed) : Type 0 where
+  pub bytes : List ℕ
+  pub told : AreTold held bytes
+  pub is_replay : IsReplayOf bytes replayed
+
+-- the task asks for this work: the search of a query, a query planned in stages, the check of a text, the dump of a
+-- query, the search of a dump's query, or the search of each line of a list
 abbrev pub AsksFor : AnyTask → Options → (List ℕ → Option (List ℕ)) → Work → Type 0
 AsksFor task options held (works.Query asked) = IsAskedBy task options held asked.query
-AsksFor task options held (works.Stages staged) = AsksInStages task options held staged
-AsksFor task options held (works.Check checked) = AsksToCheck task options held checked
-AsksFor task options held (works.List listed) = AsksForList task held listed
+AsksFor task options held (works.Stages staged) =
+    (named : StageNames) × (task ≡ stages named) × AreStaged named options held staged
+AsksFor task options held (works.Check checked) =
+    (named : PlanNames) × (task ≡ check named) × AreChecked named options held checked
+AsksFor task options held (works.Dump dumped) =
+    (files : FileNames) × (task ≡ dump files) × AreDumped files options held dumped
+AsksFor task options held (works.Replay replayed) =
+    (file : List ℕ) × (task ≡ replay file) × IsReplayed (held file) replayed
+AsksFor task options held (works.List listed) =
+    (files : ListNames) × (task ≡ batch files) × AreListed files held listed
 
 -- the catalogue is one, and the list isn't too long
 pub record IsListed (listed : Listed) : Type 0 where
   pub catalogue : IsCatalog listed.catalog
   pub bounded : length listed.list.items ≤ 1048576
 
+-- the catalogue is one, and the query's bytes are read as the select
+pub record IsDumpable (dumped : Dumped) : Type 0 where
+  pub catalogue : IsCatalog dumped.catalog
+  pub reading : IsReading dumped.query.items dumped.select
+
+-- the query's props are found, and a command may choose what the dump does
+pub record IsReplayable (replayed : Replayed) : Type 0 where
+  pub props : IsProps replayed.asked.query replayed.asked.props
+  pub allowed : AreDumpOptions replayed.options
+
 -- the work can be done
 abbrev pub IsReady : Work → Type 0
 IsReady (works.Query asked) = IsProps asked.query asked.props
 IsReady (works.Stages staged) = IsProps staged.asked.query staged.asked.props
 IsReady (works.Check checked) = IsProps checked.asked.query checked.asked.props
+IsReady (works.Dump dumped) = IsDumpable dumped
+IsReady (works.Replay replayed) = IsReplayable replayed
 IsReady (works.List listed) = IsListed listed
 
 -- one worker does the work, where no crew may be
@@ -132,6 +163,8 @@ abbrev pub IsWorkForOne : Work → ℕ → Type 0
 IsWorkForOne (works.Query asked) workers = workers ≡ 1
 IsWorkForOne (works.Stages staged) workers = ⊥
 IsWorkForOne (works.Check checked) workers = workers ≡ 1
+IsWorkForOne (works.Dump dumped) workers = workers ≡ 1
+IsWorkForOne (works.Replay replayed) workers = workers ≡ 1
 IsWorkForOne (works.List listed) workers = workers ≡ 1
 
 -- the command is the one that the words are, and it asks for the work

@@ -1,7 +1,9 @@
-//! What a run is to search, or to check.
+//! What a run is to do.
 use command_line::{Command, Stages};
+use dump_replay::DumpOptions;
 use query_core::{Catalog, Query};
 use request_props::Props;
+use sql_reader::Select;
 
 /// A query, and what was found of it.
 #[derive(Drop)]
@@ -24,6 +26,21 @@ pub struct Checked {
     pub plan: Vec<u8>,
 }
 
+/// A query that is to be dumped: its bytes, what they are read as, and the catalogue.
+#[derive(Drop)]
+pub struct Dumped {
+    pub catalog: Catalog,
+    pub query: Vec<u8>,
+    pub select: Select,
+}
+
+/// The query of a dump, and what the dump chooses for it.
+#[derive(Drop)]
+pub struct Replayed {
+    pub options: DumpOptions,
+    pub asked: Asked,
+}
+
 /// A catalogue, and a list with a query over it on each line.
 #[derive(Drop)]
 pub struct Listed {
@@ -40,6 +57,10 @@ pub enum Work {
     Stages(InStages),
     /// A text that may be a query's plan.
     Check(Checked),
+    /// The dump of a query, without a search.
+    Dump(Dumped),
+    /// The query of a dump.
+    Replay(Replayed),
     /// Each line of a list.
     List(Listed),
 }

@@ -117,6 +117,15 @@ pub fn refused_plan(alloc: Global, cause: &str) -> Result<Ending, AllocError>
     line(alloc, Status::PlanRefused, &text)
 }
 
+/// The dump is refused for this cause.
+pub fn refused_dump(alloc: Global, cause: &str) -> Result<Ending, AllocError>
+    ensures { IfOk result
+        (λ ending. EndsAs ending Status.DumpRefused (texts.dump_refused cause.now)) }
+{
+    let text = format!(in alloc; "dump refused: {cause}\n")?;
+    line(alloc, Status::DumpRefused, &text)
+}
+
 /// The list of queries is refused for this cause.
 pub fn refused_batch(alloc: Global, cause: &str) -> Result<Ending, AllocError>
     ensures { IfOk result

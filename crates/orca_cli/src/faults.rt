@@ -1,8 +1,10 @@
-//! Why a catalogue, a query or the text of a plan is refused, as text. Want of memory has none, and stays what it is.
+//! Why a catalogue, a query, the text of a plan or a dump is refused, as text. Want of memory has none, and stays what
+//! it is.
 ghost use Rattle.std.specs.Prelude.{◌≡◌, ◌≢◌, IfOk, string_bytes};
-ghost use Rattle.orca_cli.specs.Texts.{catalog_cause, limit_name, sql_cause, bind_cause, props_cause, plan_cause};
+ghost use Rattle.orca_cli.specs.Texts.{catalog_cause, limit_name, sql_cause, bind_cause, props_cause, plan_cause, dump_cause};
 
 use catalog_json::CatalogFault;
+use dump_replay::DumpFault;
 use request_props::PropsFault;
 use sql_bind::BindFault;
 use sql_reader::{Limit, SqlFault};
@@ -100,5 +102,17 @@ pub fn plan_fault_text(alloc: Global, fault: TextFault) -> Result<String, AllocE
         TextFault::Request => String::from_str(alloc, "root request"),
         TextFault::Number { line } => format!(in alloc; "number at line {line}"),
         TextFault::Memory => Err(AllocError),
+    }
+}
+
+/// Why there is no dump, with the number of the line.
+pub fn dump_fault_text(alloc: Global, fault: DumpFault) -> Result<String, AllocError>
+    ensures text { IfOk result (λ text. string_bytes text ≡ dump_cause fault) }
+    ensures not_memory { IfOk result (λ text. fault ≢ DumpFault.Memory) }
+{
+    match fault {
+        DumpFault::TooLong => String::from_str(alloc, "too long"),
+        DumpFault::Line { line } => format!(in alloc; "line {line}"),
+        DumpFault::Memory => Err(AllocError),
     }
 }

@@ -1,7 +1,10 @@
 //! What follows from how commands are read, and how runs end.
 ghost use Rattle.orca_cli.specs.Causes.{EndsHaveCauses};
+ghost use Rattle.orca_cli.specs.DumpCauses.{EndsHaveDumpCauses};
 ghost use Rattle.orca_cli.specs.Laws.{BindsOnce, LinesAsPlanned, OneBatch, OneCheck, OneGenerated, OneOutcome, OneStages};
+ghost use Rattle.orca_cli.specs.DumpLaws.{DumpsReplay, OneReplay, ReplaysAsPlanned};
 
+use dump_replay::{dumps_are_one, dumps_bind_alike};
 use goal_children::goal_lists_are_known;
 use job_outcome::entries_fit_or_not;
 use job_trace::{memos_are_known, traces_are_known};
@@ -41,13 +44,35 @@ pub fn stages_are_bound_once()
     ensures { BindsOnce }
 {}
 
+/// A replay ends as a plan of what its dump says, by however many workers. So the replay of a dump that
+/// was written ends as a plan of what was dumped.
+pub fn replays_are_plans()
+    ensures planned { ReplaysAsPlanned }
+    ensures one { OneReplay }
+    ensures dumped { DumpsReplay }
+{
+    least_is_one();
+    entries_fit_or_not();
+    sql_reader::one_outcome();
+    links_are_one();
+    members_are_known();
+    memos_are_known();
+    goal_lists_are_known();
+    traces_are_known();
+    dumps_are_one();
+    dumps_bind_alike();
+}
+
 /// What follows from how a run ends: it is complete, and each status has its causes.
 pub fn endings_have_causes()
-    ensures { EndsHaveCauses }
+    ensures causes { EndsHaveCauses }
+    ensures dumps { EndsHaveDumpCauses }
 {
     // A text asks for one query, or has one fault, a query has room or not, and a plan's text has one outcome.
     sql_reader::one_outcome();
     links_are_one();
     entries_fit_or_not();
     outcomes_are_one();
+    // A text says one dump, or has one fault.
+    dumps_are_one();
 }

@@ -7,6 +7,7 @@ mod batch;
 mod batch_text;
 mod catalogs;
 mod checks;
+mod dumps;
 mod ending;
 mod faults;
 mod generated;
@@ -28,6 +29,6 @@ mod work;
 
 pub use ending::finished;
 pub use job_engine::RunNote;
-pub use laws::{endings_have_causes, one_outcome, stages_are_bound_once};
+pub use laws::{endings_have_causes, one_outcome, replays_are_plans, stages_are_bound_once};
 pub use status::Status;
 pub use top::{is_for_one, orca_alone, orca_run, put_usage};

@@ -7,11 +7,13 @@ ghost use Rattle.command_line.specs.Views.{file_names, list_names, plan_names, s
 ghost use Rattle.orca_cli.specs.Lists.{IsListRefused};
 ghost use Rattle.orca_cli.specs.Prepared.{CheckStops, FilesAsk, FilesStop, QueryStops, Stops, TaskStops, reads};
 ghost use Rattle.orca_cli.specs.Texts.{usage_line};
-ghost use Rattle.orca_cli.specs.Views.{AreChecked, AreListed, AreStaged, AsksFor, EndsAs, EndsWith, IsAsked, IsListed, IsReady, IsWanted};
+ghost use Rattle.orca_cli.specs.Views.{AreChecked, AreDumped, AreListed, AreStaged, AsksFor, EndsAs, EndsWith};
+ghost use Rattle.orca_cli.specs.Views.{IsAsked, IsDumpable, IsListed, IsReady, IsWanted};
 
-use crate::asked::{Asked, Checked, InStages, Listed, Wanted, Work};
+use crate::asked::{Asked, Checked, Dumped, InStages, Listed, Wanted, Work};
 use crate::catalogs::catalog_of_file;
 use crate::checks::plan_of_file;
+use crate::dumps::{dumped_over, replayed_by_file};
 use crate::ending::{End, Ending, line};
 use crate::generated::query_of_input;
 use crate::lists::list_of_file;
@@ -23,7 +25,7 @@ use query_core::Options;
 use std::alloc::{AllocError, Global};
 
 pub const USAGE: &str =
-    "usage: orca plan CATALOG QUERY [--workers N] [--capacity N] [--root one|spread] [--off RULE+RULE] [--memo] [--trace] [--by-worker] | orca gen NUMBER TABLES SHAPE [--workers N] [--capacity N] | orca stages CATALOG QUERY STAGES [--workers N] [--capacity N] [--root one|spread] | orca check CATALOG QUERY PLAN [--root one|spread] [--off RULE+RULE] | orca batch CATALOG LIST [--workers N] [--capacity N] [--root one|spread] [--off RULE+RULE] [--memo] [--trace]\n";
+    "usage: orca plan CATALOG QUERY [--workers N] [--capacity N] [--root one|spread] [--off RULE+RULE] [--memo] [--trace] [--by-worker] | orca gen NUMBER TABLES SHAPE [--workers N] [--capacity N] | orca stages CATALOG QUERY STAGES [--workers N] [--capacity N] [--root one|spread] | orca check CATALOG QUERY PLAN [--root one|spread] [--off RULE+RULE] | orca dump CATALOG QUERY [--capacity N] [--root one|spread] [--off RULE+RULE] [--memo] [--trace] | orca replay DUMP [--workers N] | orca batch CATALOG LIST [--workers N] [--capacity N] [--root one|spread] [--off RULE+RULE] [--memo] [--trace]\n";
 
 /// The command that the words are, and the work for which it asks; or how the run ends.
 pub fn prepared<'w, S: Shelf>(
@@ -85,7 +87,14 @@ fn work_of<S: Shelf>(
             Ok(checked) => Ok(Work::Check(checked)),
             Err(end) => Err(end),
         },
-        Task::Dump(_) | Task::Replay(_) => Err(End::Told(usage(alloc)?)),
+        Task::Dump(files) => match dumped_by_files(alloc, shelf, files, choices.options) {
+            Ok(dumped) => Ok(Work::Dump(dumped)),
+            Err(end) => Err(end),
+        },
+        Task::Replay(file) => match replayed_by_file(alloc, shelf, file) {
+            Ok(replayed) => Ok(Work::Replay(replayed)),
+            Err(end) => Err(end),
+        },
         Task::Batch(files) => match listed_by_files(alloc, shelf, files, choices.capacity) {
             Ok(listed) => Ok(Work::List(listed)),
             Err(end) => Err(end),
@@ -161,6 +170,27 @@ fn checked_by_files<S: Shelf>(
             Ok(plan) => Ok(Checked { asked, plan }),
             Err(end) => Err(end),
         },
+        Err(end) => Err(end),
+    }
+}
+
+// The query and the catalogue of two files, where the query isn't refused.
+fn dumped_by_files<S: Shelf>(
+    alloc: Global,
+    shelf: &mut S,
+    files: Files<'_>,
+    options: Options,
+) -> Result<Dumped, End>
+    requires { AreOptions options }
+    ensures dumped { IfOk result (AreDumped (file_names files.entry) options (S.held shelf.old)) }
+    ensures ready { IfOk result IsDumpable }
+    ensures stops { IfErr result (EndsWith (QueryStops (file_names files.entry) options
+        (reads (S.held shelf.old) (S.faults shelf.old) (S.faults shelf.new)))) }
+
+    ensures same { (n : List ℕ) → S.held shelf.new n ≡ S.held shelf.old n }
+{
+    match catalog_of_file(alloc, shelf, files.catalog) {
+        Ok(catalog) => dumped_over(alloc, shelf, files.query, catalog, options),
         Err(end) => Err(end),
     }
 }

@@ -7,7 +7,7 @@ ghost use Rattle.query_core.specs.declared.options.Options.{Options as AnyOption
 ghost use Rattle.sql_reader.specs.Faults.{IsReading};
 ghost use Rattle.sql_reader.specs.Readable.{IsReadable};
 ghost use Rattle.orca_cli.specs.Asked.{Asks, IsBoundAs};
-ghost use Rattle.orca_cli.specs.Prepared.{FileStops, IsAskedAt, IsQueryRefused, reads};
+ghost use Rattle.orca_cli.specs.Prepared.{AreTold, FileStops, IsAskedAt, IsQueryRefused, reads};
 ghost use Rattle.orca_cli.specs.Views.{EndsWith, IsAsked};
 
 use crate::asked::Asked;
@@ -42,10 +42,26 @@ pub fn query_of_file<S: Shelf>(
     ensures same { (n : List ℕ) → S.held shelf.new n ≡ S.held shelf.old n }
     ensures later { (n : List ℕ) → S.faults shelf.old n ≤ S.faults shelf.new n }
 {
+    match text_of_file(alloc, shelf, name) {
+        Ok(text) => query_of_text(alloc, &text, catalog, options),
+        Err(end) => Err(end),
+    }
+}
+
+/// The text of the query's file, or how the run ends without one: it couldn't be read, or is too long.
+pub fn text_of_file<S: Shelf>(alloc: Global, shelf: &mut S, name: &str) -> Result<Vec<u8>, End>
+    ensures told { IfOk result (λ text. AreTold (S.held shelf.old name.now) text.items) }
+    ensures stops { (catalog : Catalog) (options : AnyOptions)
+        → IfErr result (EndsWith (FileStops (IsQueryRefused catalog options) name.now
+        (reads (S.held shelf.old) (S.faults shelf.old) (S.faults shelf.new)))) }
+
+    ensures same { (n : List ℕ) → S.held shelf.new n ≡ S.held shelf.old n }
+    ensures later { (n : List ℕ) → S.faults shelf.old n ≤ S.faults shelf.new n }
+{
     // A text over the limit has this one fault.
     one_outcome();
     match read_file(alloc, shelf, name, QUERY_LIMIT) {
-        Ok(Some(text)) => query_of_text(alloc, &text, catalog, options),
+        Ok(Some(text)) => Ok(text),
         Ok(None) => Err(End::Told(refused_query(alloc, "too long")?)),
         Err(end) => Err(end),
     }
@@ -63,8 +79,21 @@ pub fn query_of_text(
     ensures asks { IfOk result (IsAsked (Asks catalog.now options text.now)) }
     ensures stops { IfErr result (EndsWith (IsQueryRefused catalog.now options text.now)) }
 {
-    match read_sql(alloc, text) {
+    match select_of_text(alloc, text) {
         Ok(select) => query_of_select(alloc, &select, catalog, options),
+        Err(end) => Err(end),
+    }
+}
+
+/// What the text is read as, or how the run ends where it is no query, whatever the catalogue is.
+pub fn select_of_text(alloc: Global, text: &[u8]) -> Result<Select, End>
+    ensures reading { IfOk result (IsReading text.now) }
+    ensures readable { IfOk result IsReadable }
+    ensures stops { (catalog : Catalog) (options : AnyOptions)
+        → IfErr result (EndsWith (IsQueryRefused catalog options text.now)) }
+{
+    match read_sql(alloc, text) {
+        Ok(select) => Ok(select),
         Err(fault) => {
             let cause = sql_fault_text(alloc, fault)?;
             Err(End::Told(refused_query(alloc, &cause)?))
@@ -72,8 +101,8 @@ pub fn query_of_text(
     }
 }
 
-// The same for each text of which the select is the reading.
-fn query_of_select(
+/// The same for each text of which the select is the reading.
+pub fn query_of_select(
     alloc: Global,
     select: &Select,
     catalog: &Catalog,

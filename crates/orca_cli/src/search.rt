@@ -1,13 +1,16 @@
 //! The search of a query, and the ending of a run by what it gives.
-ghost use Rattle.std.specs.Prelude.{◌≡◌, IfOk};
+ghost use Rattle.std.specs.Prelude.{◌≡◌, None, IfOk};
 ghost use Rattle.request_props.specs.Numbered.{IsProps};
+ghost use Rattle.command_line.specs.Numbers.{IsWithin};
 ghost use Rattle.command_line.specs.Options.{AreChoices};
 ghost use Rattle.orca_cli.specs.Answers.{IsSearchEnd};
+ghost use Rattle.orca_cli.specs.Dumps.{replay_choices as choices_of};
 ghost use Rattle.orca_cli.specs.Sections.{Tells};
-ghost use Rattle.orca_cli.specs.Views.{text_of};
+ghost use Rattle.orca_cli.specs.Views.{IsReplayable, text_of};
 
 use crate::answer::ending_of;
-use crate::asked::Asked;
+use crate::asked::{Asked, Replayed};
+use crate::dumps::replay_choices;
 use crate::ending::Ending;
 use command_line::{Choices, GenInput};
 use job_engine::{RunNote, search_alone, search_by_crew};
@@ -62,4 +65,44 @@ pub fn searched_by_crew<R: Threads + Wait + Sync, G: Gate>(
         note,
     )?;
     ending_of(alloc, choices, generated, asked, &outcome)
+}
+
+/// The ending of a dump's query that one worker searches, with what the dump chooses. It returns.
+pub fn replayed_alone(
+    alloc: Global,
+    workers: u32,
+    replayed: &Replayed,
+    note: &mut RunNote,
+) -> Result<Ending, AllocError>
+    requires ready { IsReplayable replayed.now }
+    requires alone { workers ≡ 1 }
+    ensures { IfOk result
+        (λ ending. IsSearchEnd
+        (Tells None (choices_of replayed.now.options workers) replayed.now.asked.query)
+        (choices_of replayed.now.options workers) replayed.now.asked.query note.new
+        ending.status (text_of ending)) }
+{
+    let choices = replay_choices(replayed.options, workers);
+    searched_alone(alloc, choices, None, &replayed.asked, note)
+}
+
+/// The same by as many workers.
+pub fn replayed_by_crew<R: Threads + Wait + Sync, G: Gate>(
+    rt: &R,
+    alloc: Global,
+    workers: u32,
+    replayed: &Replayed,
+    gate: &G,
+    note: &mut RunNote,
+) -> Result<Ending, AllocError>
+    requires ready { IsReplayable replayed.now }
+    requires workers { IsWithin 1 64 workers }
+    ensures { IfOk result
+        (λ ending. IsSearchEnd
+        (Tells None (choices_of replayed.now.options workers) replayed.now.asked.query)
+        (choices_of replayed.now.options workers) replayed.now.asked.query note.new
+        ending.status (text_of ending)) }
+{
+    let choices = replay_choices(replayed.options, workers);
+    searched_by_crew(rt, alloc, choices, None, &replayed.asked, gate, note)
 }

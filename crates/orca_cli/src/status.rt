@@ -4,7 +4,7 @@ ghost use Rattle.orca_cli.specs.Status.{number_of};
 /// How a run ended.
 #[derive(Clone, Copy, Debug, PartialEq, Eq)]
 pub enum Status {
-    /// The text is that of the least plan, or of a batch; or it says what a plan costs that was given.
+    /// The text is that of the least plan, of a dump, or of a batch; or it says what a plan costs that was given.
     Planned,
     /// No plan gives what is asked for.
     NoPlan,
@@ -24,6 +24,8 @@ pub enum Status {
     Memory,
     /// The text is no valid plan of the query; the text of the run says why.
     PlanRefused,
+    /// The dump is refused, or the catalogue of a query is too long for one; the text says why.
+    DumpRefused,
     /// The list of queries is refused; the text says why.
     BatchRefused,
 }
@@ -44,6 +46,7 @@ impl Status {
             Status::WriteFault => 7,
             Status::Memory => 8,
             Status::PlanRefused => 9,
+            Status::DumpRefused => 10,
             Status::BatchRefused => 11,
         }
     }

@@ -9,8 +9,9 @@ ghost use Rattle.orca_cli.specs.Views.{EndsWith, IsReady, IsWanted, IsWorkForOne
 use crate::asked::{Wanted, Work};
 use crate::batch::{batch_alone, batch_by_crew};
 use crate::checks::check_ending;
+use crate::dumps::{dump_ending, dump_options};
 use crate::ending::End;
-use crate::search::{searched_alone, searched_by_crew};
+use crate::search::{replayed_alone, replayed_by_crew, searched_alone, searched_by_crew};
 use crate::stages::stages_ending;
 use command_line::{GenInput, Task};
 use job_engine::RunNote;
@@ -37,6 +38,14 @@ pub fn done_alone(alloc: Global, wanted: &Wanted<'_>, note: &mut RunNote) -> End
         }
         Work::Stages(_) => unreachable!(),
         Work::Check(checked) => match check_ending(alloc, checked) {
+            Ok(ending) => End::Told(ending),
+            Err(AllocError) => End::Memory,
+        },
+        Work::Dump(dumped) => match dump_ending(alloc, dumped, dump_options(choices)) {
+            Ok(ending) => End::Told(ending),
+            Err(AllocError) => End::Memory,
+        },
+        Work::Replay(replayed) => match replayed_alone(alloc, choices.workers, replayed, note) {
             Ok(ending) => End::Told(ending),
             Err(AllocError) => End::Memory,
         },
@@ -76,6 +85,16 @@ fn done_by_crew<R: Threads + Wait + Sync, G: Gate>(
             Ok(ending) => End::Told(ending),
             Err(AllocError) => End::Memory,
         },
+        Work::Dump(dumped) => match dump_ending(alloc, dumped, dump_options(choices)) {
+            Ok(ending) => End::Told(ending),
+            Err(AllocError) => End::Memory,
+        },
+        Work::Replay(replayed) => {
+            match replayed_by_crew(rt, alloc, choices.workers, replayed, gate, note) {
+                Ok(ending) => End::Told(ending),
+                Err(AllocError) => End::Memory,
+            }
+        }
         Work::List(listed) => match batch_by_crew(rt, alloc, choices, listed, gate) {
             Ok(ending) => End::Told(ending),
             Err(end) => end,
@@ -109,7 +128,8 @@ impl Wanted<'_> {
         ensures { IsTrue result ↔ IsWorkForOne self.now.work self.now.command.choices.workers }
     {
         match self.work {
-            Work::Query(_) | Work::Check(_) | Work::List(_) => self.command.choices.workers == 1,
+            Work::Query(_) | Work::Check(_) | Work::Dump(_) | Work::Replay(_) | Work::List(_) =>
+                self.command.choices.workers == 1,
             Work::Stages(_) => false,
         }
     }

@@ -8,6 +8,8 @@ mod check_tests;
 #[cfg(test)]
 mod crew_tests;
 #[cfg(test)]
+mod dump_tests;
+#[cfg(test)]
 mod failing_tests;
 #[cfg(test)]
 mod gate_tests;

@@ -5,7 +5,8 @@ use Rattle.plan_space.specs.Nodes.{Tree}
 use Rattle.plan_space.specs.Least.{IsLeastPlan}
 use Rattle.orca_cli.proofs.CheckOutcomes.{one_check_of}
 use Rattle.orca_cli.proofs.OneAnswer.{one_answer_of}
-use Rattle.orca_cli.proofs.Outcomes.{one_outcome_of, one_generated_of, one_batch_of, lines_as_planned}
+use Rattle.orca_cli.proofs.BatchOutcomes.{one_batch_of, lines_as_planned}
+use Rattle.orca_cli.proofs.Outcomes.{one_outcome_of, one_generated_of}
 use Rattle.orca_cli.proofs.SectionTexts.{OneSections}
 use Rattle.orca_cli.proofs.StagedOutcomes.{one_stages_of}
 use Rattle.orca_cli.proofs.laws.one_outcome.Goals as goal

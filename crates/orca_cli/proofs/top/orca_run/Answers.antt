@@ -15,4 +15,4 @@ returns-clause-ends g c =
 
 -- so it is complete
 pub returns-clause-completes : goal.returns-clause-completes
-returns-clause-completes g c = (c.endings_have_causes.ensures _ _ _ _ _ _ (returns-clause-ends g c)).completes
+returns-clause-completes g c = (c.endings_have_causes.ensures.causes _ _ _ _ _ _ (returns-clause-ends g c)).completes
