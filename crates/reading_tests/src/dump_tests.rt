@@ -1,12 +1,20 @@
-//! Dumps that are read, and texts that are none.
+//! Dumps that are written and read back, and texts that are none.
+ghost use Rattle.query_core.specs.Catalog.{IsCatalog};
+ghost use Rattle.dump_replay.specs.Dumps.{AreDumpOptions};
+
+use crate::catalog_tests::TWO_TABLES;
 use crate::texts::{assert_told, numbered_line};
-use dump_replay::{Dump, DumpFault, DumpOptions, read_dump};
-use query_core::{Options, RootDist};
+use catalog_json::read_catalog;
+use dump_replay::{Dump, DumpFault, DumpOptions, dump_text, read_dump};
+use query_core::{Catalog, Options, RootDist};
+use sql_reader::read_sql;
 use std::alloc::{AllocError, AllocGlobal, Global};
 use std::process::Abort;
 use std::test::Fail;
 
-// The dump of a query over two tables, with the memo.
+const QUERY: &str = "SELECT T1.a FROM T1, T2 WHERE T1.a = T2.b ORDER BY T1.a";
+
+// The dump of that query over two tables, with the memo.
 const DUMP: &str = "orca dump 1
 capacity 131072
 root one
@@ -26,6 +34,68 @@ catalog {\"version\":2,\"segments\":4,\"tables\":[{\"name\":\"T2\",\"rows\":1000
 query SELECT b
 FROM T2 -- all
 ";
+
+// The dump of a query over the two tables; no bytes where one of the texts isn't read.
+fn dumped(alloc: Global, query: &str, options: DumpOptions) -> Result<Vec<u8>, Fail>
+    requires { AreDumpOptions options }
+{
+    match read_catalog(alloc, TWO_TABLES.as_bytes()) {
+        Ok(catalog) => dumped_over(alloc, &catalog, query, options),
+        Err(_) => Ok(Vec::new(alloc)),
+    }
+}
+
+fn dumped_over(
+    alloc: Global,
+    catalog: &Catalog,
+    query: &str,
+    options: DumpOptions,
+) -> Result<Vec<u8>, Fail>
+    requires catalogue { IsCatalog catalog.now }
+    requires options { AreDumpOptions options }
+{
+    match read_sql(alloc, query.as_bytes()) {
+        Ok(select) => {
+            let text = dump_text(alloc, &select, catalog, query.as_bytes(), &options)
+                .ok()
+                .ok_or("the query is dumped")?;
+            Ok(text)
+        }
+        Err(_) => Ok(Vec::new(alloc)),
+    }
+}
+
+#[test]
+fn a_query_is_dumped(rt: HostRuntime) -> Result<(), Fail> {
+    let options = DumpOptions {
+        capacity: 131_072,
+        options: Options {
+            root: RootDist::One,
+            off: 0,
+        },
+        memo: true,
+        trace: false,
+    };
+    let text = dumped(rt.alloc(), QUERY, options)?;
+    assert!(rt; text.as_slice() == DUMP.as_bytes());
+    Ok(())
+}
+
+#[test]
+fn a_dump_has_the_tables_of_its_query(rt: HostRuntime) -> Result<(), Fail> {
+    let options = DumpOptions {
+        capacity: 64,
+        options: Options {
+            root: RootDist::Spread,
+            off: 16_388,
+        },
+        memo: true,
+        trace: true,
+    };
+    let text = dumped(rt.alloc(), "SELECT b\nFROM T2 -- all", options)?;
+    assert!(rt; text.as_slice() == OTHER_DUMP.as_bytes());
+    Ok(())
+}
 
 fn is_other_dump(dump: &Dump) -> bool {
     let options = DumpOptions {
