@@ -1,6 +1,6 @@
 #!/usr/bin/env python3
-"""Tests that the examples are as their pages say: the status of each command of examples/README.md, and each figure in the
-tables of examples/*/README.md. It needs the built program (ORCA_PROGRAM names another).
+"""Tests that the examples are as their pages say: the status of each command of examples/README.md, the dump that is
+stored, and each figure in the tables of examples/*/README.md. It needs the built program (ORCA_PROGRAM names another).
 
 Usage: tools/examples_test.py
 """
@@ -77,6 +77,13 @@ def commands_end_as_their_page_says():
         assert done.returncode == status, f"{command}: status {done.returncode}, and not {status}"
 
 
+def a_dump_is_the_stored_one():
+    words = [str(EXAMPLES / "two_tables.json"), str(EXAMPLES / "join.sql"), "--memo"]
+    stored = EXAMPLES / "join.dump"
+    assert run(PROGRAM, ["dump", *words]) == (0, stored.read_text())
+    assert run(PROGRAM, ["replay", str(stored)]) == run(PROGRAM, ["plan", *words])
+
+
 def tables_have_the_figures_of_the_program():
     count = 0
     for page in sorted(EXAMPLES.glob("*/README.md")):
@@ -88,4 +95,4 @@ def tables_have_the_figures_of_the_program():
 
 
 if __name__ == "__main__":
-    run_tests([], [commands_end_as_their_page_says, tables_have_the_figures_of_the_program])
+    run_tests([], [commands_end_as_their_page_says, a_dump_is_the_stored_one, tables_have_the_figures_of_the_program])

@@ -3,7 +3,8 @@
 
 Queries have 65,536 bytes and catalogues 1,048,576, filled with white space, comments, strings, names, digits, lists and
 nesting before, in and behind what is told: a plan, or each cause with its place. The same texts with one byte more are
-too long. What is wanted was worked out by hand.
+too long. Dumps have 1,179,648 bytes, or the longest catalogue with the longest query. What is wanted was worked out by
+hand.
 
 Usage: tools/large_texts.py [--program PROGRAM]
 """
@@ -17,8 +18,8 @@ import tempfile
 import time
 
 TOP = os.path.dirname(os.path.dirname(os.path.abspath(__file__)))
-LONGEST_QUERY, LONGEST_CATALOG = 65536, 1048576
-PLANNED, QUERY_REFUSED, CATALOG_REFUSED = 0, 3, 4
+LONGEST_QUERY, LONGEST_CATALOG, LONGEST_DUMP = 65536, 1048576, 1179648
+PLANNED, QUERY_REFUSED, CATALOG_REFUSED, DUMP_REFUSED = 0, 3, 4, 10
 SECONDS = 60
 
 
@@ -231,6 +232,57 @@ def catalogs():
         yield name, text, (CATALOG_REFUSED, f"catalog refused: {told}\n")
 
 
+# ---- dumps
+
+
+def dumped(catalog, query):
+    return f"orca dump 1\ncapacity 131072\nroot one\noff\nprint\ncatalog {catalog}\nquery {query}\n"
+
+
+def whole_catalog():
+    """A catalogue of the greatest length whose text is the one that a dump has: each column of its table t counted."""
+    histogram = {"low": 0, "buckets": [{"upto": upto, "rows": 10} for upto in range(64)]}
+    columns = [column("a", 1000)] + [{**column(f"c{place}", 64), "histogram": histogram} for place in range(100, 819)]
+    lacking = LONGEST_CATALOG - len(of_columns(columns))
+    for counted in columns[1:]:
+        more = min(lacking, 50)
+        counted["name"] += "x" * more
+        lacking -= more
+    return of_columns(columns)
+
+
+def of_columns(columns):
+    return compact({"version": 2, "segments": 4, "tables": [table("t", columns)]})
+
+
+def dumps():
+    """The words, their files, and the status with the text."""
+    catalog, query = T.ljust(LONGEST_CATALOG), "SELECT a FROM t".ljust(LONGEST_QUERY, "\n")
+    for name, text, wanted in [
+        ("the longest texts", dumped(catalog, query), (PLANNED, SCANNED)),
+        ("a byte more of the query", dumped(catalog, query + " "), refused_query("too long")),
+        ("a byte more of both", dumped(catalog + " ", query + " "), (CATALOG_REFUSED, "catalog refused: too long\n")),
+        ("all of it a query", filled(dumped(T, "")[:-1], " ", "\n", LONGEST_DUMP), refused_query("too long")),
+        ("a byte too many", filled(dumped(T, "")[:-1], " ", "\n", LONGEST_DUMP + 1), refused_dump("too long")),
+        ("one line", "x" * LONGEST_DUMP, refused_dump("line 0")),
+        ("ends of lines", "\n" * LONGEST_DUMP, refused_dump("line 0")),
+        ("a capacity", filled("orca dump 1\ncapacity ", "0", "64\n", LONGEST_DUMP), refused_dump("line 1")),
+        ("a catalogue that goes on", filled(dumped(T, "")[:-8], " ", "", LONGEST_DUMP), refused_dump("line 5")),
+        ("a query that goes on", filled(dumped(T, "")[:-1], " ", "", LONGEST_DUMP), refused_dump("line 6")),
+    ]:
+        yield name, ["replay", "dump"], {"dump": text}, wanted
+    catalog = whole_catalog()
+    assert len(catalog) == LONGEST_CATALOG, len(catalog)
+    text = dumped(catalog, query)
+    yield "what is dumped", ["dump", "c.json", "q.sql"], {"c.json": catalog, "q.sql": query}, (PLANNED, text)
+    for workers in ["1", "8"]:
+        yield "what was dumped", ["replay", "dump", "--workers", workers], {"dump": text}, (PLANNED, SCANNED)
+
+
+def refused_dump(cause):
+    return DUMP_REFUSED, f"dump refused: {cause}\n"
+
+
 # ---- the program
 
 
@@ -238,16 +290,23 @@ class Runner:
     def __init__(self, program, folder):
         self.program, self.folder = program, folder
 
-    def run(self, catalog, query):
-        for name, text in (("c.json", catalog), ("q.sql", query)):
+    def run(self, words, files):
+        for name, text in files.items():
             with open(os.path.join(self.folder, name), "wb") as file:
                 file.write(text.encode("latin-1"))
-        done = subprocess.run([self.program, "plan", "c.json", "q.sql"], cwd=self.folder, stdout=subprocess.PIPE,
-                              stderr=subprocess.STDOUT, timeout=SECONDS)
+        done = subprocess.run([self.program, *words], cwd=self.folder, stdout=subprocess.PIPE, stderr=subprocess.STDOUT,
+                              timeout=SECONDS)
         return done.returncode, done.stdout.decode("latin-1")
 
 
 def cases():
+    for name, catalog, query, wanted in plans():
+        yield name, ["plan", "c.json", "q.sql"], {"c.json": catalog, "q.sql": query}, wanted
+    for name, words, files, wanted in dumps():
+        yield f"dump, {name}", words, files, wanted
+
+
+def plans():
     for name, catalog, query, wanted in queries():
         assert len(query) == LONGEST_QUERY, (name, len(query))
         yield name, catalog, query, wanted
@@ -266,9 +325,9 @@ def main():
     began, count, bad = time.time(), 0, 0
     with tempfile.TemporaryDirectory() as folder:
         runner = Runner(runner_program, folder)
-        for name, catalog, query, (status, text) in cases():
+        for name, words, files, (status, text) in cases():
             count += 1
-            found = runner.run(catalog, query)
+            found = runner.run(words, files)
             if found != (status, text):
                 bad += 1
                 print(f"{name}: status {found[0]}, {found[1][:200]!r}, and not {status}, {text[:200]!r}", flush=True)
