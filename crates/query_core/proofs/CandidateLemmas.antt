@@ -10,6 +10,10 @@ use Rattle.query_core.specs.Keys.{IsGroup, top_of, input_of, root_of}
 use Rattle.query_core.specs.Expressions.{logical_fields, physical_fields, fields_of, children_of, AreInRange, IsChild}
 use Rattle.query_core.specs.Expressions.{IsPacked, FallsInto, HasIndex, IsFiltered, IsJoin, IsAggregated, HasLogical}
 use Rattle.query_core.specs.Expressions.{HasPhysical, HasShape, IsCandidate, origin_of}
+use Rattle.query_core.specs.Expressions.{implements, access, children_by, index_by, table_in, HasAccess}
+use Rattle.query_core.specs.declared.expressions.Access.{Access}
+use Rattle.query_core.specs.declared.expressions.Access.TheVariants.{Direct, Index}
+use Rattle.query_core.proofs.Implementations.{children_taken, index_taken}
 use Rattle.query_core.specs.ByKind.{index_count}
 use Rattle.query_core.specs.declared.table.Item.{Item}
 use Rattle.query_core.specs.declared.table.QueryTable.{QueryTable}
@@ -111,19 +115,16 @@ logical_groups q group (logical.Join left right) known shape = join_children q g
 logical_groups q group (logical.Agg child) known shape = aggregate_child q group child known shape
 logical_groups q group (logical.Partial child) known (partial, same) = subst (IsGroup q) (sym same) (input_group q)
 
--- so are those of a physical one
+-- those of a physical one are those of what it implements, or none
+taken_groups : (q : Query) (a : Access) (children : Children) → AreGroups q children → AreGroups q (children_by a children)
+taken_groups q Direct children known = known
+taken_groups q (Index i) children known = refl
+
 physical_groups : (q : Query) (group : KeyParts) (o : Physical) → IsGroup q group → HasPhysical q group o
     → AreGroups q (physical_fields o).children
-physical_groups q group physical.Scan known shape = refl
-physical_groups q group (physical.IndexScan i) known shape = refl
-physical_groups q group (physical.Filter child) known shape = filter_child q group child known shape
-physical_groups q group (physical.IndexSeek i) known shape = refl
-physical_groups q group (physical.HashJoin left right) known shape = join_children q group left right known shape
-physical_groups q group (physical.MergeJoin left right) known shape = join_children q group left right known shape
-physical_groups q group (physical.LoopJoin left right) known shape = join_children q group left right known shape
-physical_groups q group (physical.HashAgg child) known shape = aggregate_child q group child known shape
-physical_groups q group (physical.StreamAgg child) known shape = aggregate_child q group child known shape
-physical_groups q group (physical.PartialAgg child) known (partial, same) = subst (IsGroup q) (sym same) (input_group q)
+physical_groups q group o known shape = subst (AreGroups q) (sym (children_taken group o))
+    (taken_groups q (access o) (logical_fields (implements group o)).children
+    (logical_groups q group (implements group o) known shape.0))
 
 -- the children of an operator that a group can have are groups of the query
 shape_groups : (q : Query) (group : KeyParts) (o : Operator) → IsGroup q group → HasShape q group o
@@ -136,10 +137,12 @@ logical_index : (o : Logical) → (logical_fields o).index ≡ 0
 logical_index o = grind arith
 
 -- the index that a physical one reads has a number below 16
+accessed_few : (q : Query) (group : KeyParts) (a : Access) → HasAccess q group a → index_by a < 16
+accessed_few q group Direct there = omega arith
+accessed_few q group (Index i) there = index_few q (table_in group) i there
+
 physical_index : (q : Query) (group : KeyParts) (o : Physical) → HasPhysical q group o → (physical_fields o).index < 16
-physical_index q group (physical.IndexScan i) (t, of_table, there) = index_few q t i there
-physical_index q group (physical.IndexSeek i) (t, filtered, there) = index_few q t i there
-physical_index q group o shape = omega arith
+physical_index q group o shape = omega (arith, index_taken o, accessed_few q group (access o) shape.1)
 
 shape_index : (q : Query) (group : KeyParts) (o : Operator) → HasShape q group o → (fields_of o).index < 16
 shape_index q group (operators.Logical o) shape = omega (arith, logical_index o)

@@ -9,7 +9,7 @@ use Rattle.query_core.specs.Expressions.{HasLogical, HasPhysical, HasShape, IsJo
 use Rattle.query_core.specs.declared.query.Query.{Query}
 use Rattle.query_core.specs.declared.words.KeyParts.{KeyParts}
 use Rattle.query_core.specs.declared.words.KeyParts.TheVariants as groups
-use Rattle.query_core.specs.declared.expressions.Children.TheVariants.{Two}
+use Rattle.query_core.specs.declared.expressions.Children.TheVariants.{Zero, One, Two}
 use Rattle.query_core.specs.declared.expressions.Logical.{Logical}
 use Rattle.query_core.specs.declared.expressions.Logical.TheVariants as logical
 use Rattle.query_core.specs.declared.expressions.Physical.{Physical}
@@ -18,6 +18,9 @@ use Rattle.query_core.specs.declared.expressions.Operator.{Operator}
 use Rattle.query_core.specs.declared.expressions.Operator.TheVariants as operators
 use Rattle.query_core.specs.declared.expressions.ExprParts.{ExprParts}
 use Rattle.query_core.specs.Candidates.{MiddlesRise, LogicalComeFirst}
+use Rattle.query_core.specs.Expressions.{implements, access}
+use Rattle.query_core.specs.declared.expressions.Children.{Children}
+use Rattle.query_core.proofs.Implementations.{children_taken, last_of, comes_after, number_out, number_in, two_joins}
 use Rattle.query_core.proofs.CandidateLemmas.{candidate_packed}
 use Rattle.query_core.proofs.ExpressionLemmas.{operator_small, left_small, right_small}
 use Rattle.query_core.proofs.GroupLemmas.{key_one}
@@ -78,28 +81,19 @@ logical_ends q group (logical.Partial child) (is, under) = subst (λ (g : KeyPar
 abbrev BeginsAfter : KeyParts → ℕ → Type 0
 BeginsAfter group number = last_logical group < number
 
+last_same : (q : Query) (group : KeyParts) (o : Logical) → HasLogical q group o → last_logical group ≡ last_of o
+unfolding last_logical last_of
+last_same q group logical.Get (t, is) = ap last_logical is
+last_same q group (logical.Select child) (t, is, under) = ap last_logical is
+last_same q group logical.NJoin (set, is) = ap last_logical is
+last_same q group (logical.Join left right) (set, a, b, is, falls, left_is, right_is) = ap last_logical is
+last_same q group (logical.Agg child) (is, under) = ap last_logical is
+last_same q group (logical.Partial child) (is, under) = ap last_logical is
+
 physical_begins : (q : Query) (group : KeyParts) (o : Physical) → HasPhysical q group o
     → BeginsAfter group (physical_fields o).number
-unfolding last_logical
-physical_begins q group physical.Scan (t, is) = subst (λ (g : KeyParts). BeginsAfter g 2) (sym is) (omega arith)
-physical_begins q group (physical.IndexScan index) (t, is, has) =
-    subst (λ (g : KeyParts). BeginsAfter g 3) (sym is) (omega arith)
-physical_begins q group (physical.Filter child) (t, is, under) =
-    subst (λ (g : KeyParts). BeginsAfter g 5) (sym is) (omega arith)
-physical_begins q group (physical.IndexSeek index) (t, is, has) =
-    subst (λ (g : KeyParts). BeginsAfter g 6) (sym is) (omega arith)
-physical_begins q group (physical.HashJoin left right) (set, a, b, is, falls, left_is, right_is) =
-    subst (λ (g : KeyParts). BeginsAfter g 9) (sym is) (omega arith)
-physical_begins q group (physical.MergeJoin left right) (set, a, b, is, falls, left_is, right_is) =
-    subst (λ (g : KeyParts). BeginsAfter g 10) (sym is) (omega arith)
-physical_begins q group (physical.LoopJoin left right) (set, a, b, is, falls, left_is, right_is) =
-    subst (λ (g : KeyParts). BeginsAfter g 11) (sym is) (omega arith)
-physical_begins q group (physical.HashAgg child) (is, under) =
-    subst (λ (g : KeyParts). BeginsAfter g 13) (sym is) (omega arith)
-physical_begins q group (physical.StreamAgg child) (is, under) =
-    subst (λ (g : KeyParts). BeginsAfter g 14) (sym is) (omega arith)
-physical_begins q group (physical.PartialAgg child) (is, under) =
-    subst (λ (g : KeyParts). BeginsAfter g 16) (sym is) (omega arith)
+physical_begins q group o shape =
+    omega (arith, last_same q group (implements group o) shape.0, comes_after group o)
 
 number_less : (q : Query) (group : KeyParts) (o p : Operator) → HasShape q group o → HasShape q group p
     → IsTrue (is_logical o) → (IsTrue (is_logical p) → ⊥)
@@ -133,6 +127,20 @@ HasSides q group o =
     ⊎ ((left right : KeyParts) × IsJoin q group left right × (children_of o ≡ Two left right)
     × (8 ≤ (fields_of o).number) × ((fields_of o).number ≤ 11))
 
+-- a physical operator has a right child only where it implements a join
+physical_sides : (q : Query) (group : KeyParts) (o : Physical) (c : Children) → (physical_fields o).children ≡ c
+    → HasPhysical q group o → HasSides q group (operators.Physical o)
+physical_sides q group o Zero children shape =
+    let none : right_number (physical_fields o).children ≡ 0 = ap right_number children in
+    inl (none, number_out o none)
+physical_sides q group o (One child) children shape =
+    let none : right_number (physical_fields o).children ≡ 0 = ap right_number children in
+    inl (none, number_out o none)
+physical_sides q group o (Two left right) children shape =
+    let joins = two_joins (implements group o) (access o) left right (sym (children_taken group o) ∙ children) in
+    let within = number_in o left right children in
+    inr (left, right, subst (HasLogical q group) joins shape.0, children, within.0, within.1)
+
 has_sides : (q : Query) (group : KeyParts) (o : Operator) → HasShape q group o → HasSides q group o
 has_sides q group (operators.Logical logical.Get) shape = inl (refl, inl (omega arith))
 has_sides q group (operators.Logical (logical.Select child)) shape = inl (refl, inl (omega arith))
@@ -141,19 +149,7 @@ has_sides q group (operators.Logical (logical.Join left right)) shape =
     inr (left, right, shape, refl, omega arith, omega arith)
 has_sides q group (operators.Logical (logical.Agg child)) shape = inl (refl, inr (omega arith))
 has_sides q group (operators.Logical (logical.Partial child)) shape = inl (refl, inr (omega arith))
-has_sides q group (operators.Physical physical.Scan) shape = inl (refl, inl (omega arith))
-has_sides q group (operators.Physical (physical.IndexScan index)) shape = inl (refl, inl (omega arith))
-has_sides q group (operators.Physical (physical.Filter child)) shape = inl (refl, inl (omega arith))
-has_sides q group (operators.Physical (physical.IndexSeek index)) shape = inl (refl, inl (omega arith))
-has_sides q group (operators.Physical (physical.HashJoin left right)) shape =
-    inr (left, right, shape, refl, omega arith, omega arith)
-has_sides q group (operators.Physical (physical.MergeJoin left right)) shape =
-    inr (left, right, shape, refl, omega arith, omega arith)
-has_sides q group (operators.Physical (physical.LoopJoin left right)) shape =
-    inr (left, right, shape, refl, omega arith, omega arith)
-has_sides q group (operators.Physical (physical.HashAgg child)) shape = inl (refl, inr (omega arith))
-has_sides q group (operators.Physical (physical.StreamAgg child)) shape = inl (refl, inr (omega arith))
-has_sides q group (operators.Physical (physical.PartialAgg child)) shape = inl (refl, inr (omega arith))
+has_sides q group (operators.Physical o) shape = physical_sides q group o (physical_fields o).children refl shape
 
 -- of a set and the one side, the other side
 side_is : (q : Query) (set a b : ℕ) → FallsInto q set a b → a + b ≡ set

@@ -3,6 +3,7 @@ use Rattle.std.proofs.Common.{◌≡◌, ℕ, ◌≤◌, Option, None, Some, ref
 use Rattle.std.specs.Prelude.{MatchOption}
 use Rattle.query_core.specs.Keys.{IsGroup}
 use Rattle.query_core.specs.Expressions.{HasLogical, HasPhysical, HasShape, IsCandidate}
+use Rattle.query_core.specs.Expressions.{HasIndex, table_in}
 use Rattle.query_core.specs.Candidates.{IsAfter, IsNext, IsLast}
 use Rattle.query_core.specs.ByKind.{expr, aggregate_by, IsOf, FindsFrom}
 use Rattle.query_core.specs.declared.query.Query.{Query}
@@ -46,31 +47,31 @@ logical_kind q group (logical.Partial child) (is, same) =
 -- so does a physical one
 physical_kind : (q : Query) (group : KeyParts) (o : Physical) → HasPhysical q group o
     → IsOf q group (expr group (operators.Physical o))
-physical_kind q group physical.Scan (t, is) = kind_as q group (groups.Get t) _ _ is refl (inr (inl refl))
-physical_kind q group (physical.IndexScan i) (t, is, there) =
-    kind_as q group (groups.Get t) _ _ is refl (inr (inr (i, there, refl)))
-physical_kind q group (physical.Filter child) (t, is, same) =
+physical_kind q group physical.Scan ((t, is), direct) = kind_as q group (groups.Get t) _ _ is refl (inr (inl refl))
+physical_kind q group (physical.IndexScan i) ((t, is), there) =
+    kind_as q group (groups.Get t) _ _ is refl (inr (inr (i, subst (λ g. HasIndex q (table_in g) i) is there, refl)))
+physical_kind q group (physical.Filter child) ((t, is, same), direct) =
     kind_as q group (groups.Filter t) _ _ is (ap (λ x. operators.Physical (physical.Filter x)) same) (inr (inl refl))
-physical_kind q group (physical.IndexSeek i) (t, is, there) =
-    kind_as q group (groups.Filter t) _ _ is refl (inr (inr (i, there, refl)))
-physical_kind q group (physical.HashJoin left right) (set, a, b, is, falls, first, second) =
+physical_kind q group (physical.IndexSeek i) ((t, is, under), there) =
+    kind_as q group (groups.Filter t) _ _ is refl (inr (inr (i, subst (λ g. HasIndex q (table_in g) i) is there, refl)))
+physical_kind q group (physical.HashJoin left right) ((set, a, b, is, falls, first, second), direct) =
     kind_as q group (groups.Join set) _ _ is (joins_sets q joins.Hash left right a b first second)
     (inr (inl (inr (a, b, falls, refl))))
-physical_kind q group (physical.MergeJoin left right) (set, a, b, is, falls, first, second) =
+physical_kind q group (physical.MergeJoin left right) ((set, a, b, is, falls, first, second), direct) =
     kind_as q group (groups.Join set) _ _ is (joins_sets q joins.Merge left right a b first second)
     (inr (inr (inl (a, b, falls, refl))))
-physical_kind q group (physical.LoopJoin left right) (set, a, b, is, falls, first, second) =
+physical_kind q group (physical.LoopJoin left right) ((set, a, b, is, falls, first, second), direct) =
     kind_as q group (groups.Join set) _ _ is (joins_sets q joins.Loop left right a b first second)
     (inr (inr (inr (a, b, falls, refl))))
-physical_kind q group (physical.HashAgg child) (is, inl same) =
+physical_kind q group (physical.HashAgg child) ((is, inl same), direct) =
     kind_as q group groups.Agg _ _ is (ap (aggregate_by aggregations.Hash) same) (inr (inl (inl refl)))
-physical_kind q group (physical.HashAgg child) (is, inr same) =
+physical_kind q group (physical.HashAgg child) ((is, inr same), direct) =
     kind_as q group groups.Agg _ _ is (ap (aggregate_by aggregations.Hash) same) (inr (inl (inr refl)))
-physical_kind q group (physical.StreamAgg child) (is, inl same) =
+physical_kind q group (physical.StreamAgg child) ((is, inl same), direct) =
     kind_as q group groups.Agg _ _ is (ap (aggregate_by aggregations.Stream) same) (inr (inr (inl refl)))
-physical_kind q group (physical.StreamAgg child) (is, inr same) =
+physical_kind q group (physical.StreamAgg child) ((is, inr same), direct) =
     kind_as q group groups.Agg _ _ is (ap (aggregate_by aggregations.Stream) same) (inr (inr (inr refl)))
-physical_kind q group (physical.PartialAgg child) (is, same) =
+physical_kind q group (physical.PartialAgg child) ((is, same), direct) =
     kind_as q group groups.Partial _ _ is (ap (λ x. operators.Physical (physical.PartialAgg x)) same) (inr refl)
 
 shape_kind : (q : Query) (group : KeyParts) (o : Operator) → HasShape q group o → IsOf q group (expr group o)
@@ -92,30 +93,30 @@ held q group o e known shape same = subst (λ x. IsCandidate q x × (x.group ≡
 pub kind_candidate : (q : Query) (group : KeyParts) (e : ExprParts) → IsGroup q group → IsOf q group e → IsCandidate q e
     × (e.group ≡ group)
 kind_candidate q (groups.Get t) e known (inl same) = held q (groups.Get t) _ e known (t, refl) same
-kind_candidate q (groups.Get t) e known (inr (inl same)) = held q (groups.Get t) _ e known (t, refl) same
+kind_candidate q (groups.Get t) e known (inr (inl same)) = held q (groups.Get t) _ e known ((t, refl), tt) same
 kind_candidate q (groups.Get t) e known (inr (inr (i, there, same))) =
-    held q (groups.Get t) _ e known (t, refl, there) same
+    held q (groups.Get t) _ e known ((t, refl), there) same
 kind_candidate q (groups.Filter t) e known (inl same) = held q (groups.Filter t) _ e known (t, refl, refl) same
-kind_candidate q (groups.Filter t) e known (inr (inl same)) = held q (groups.Filter t) _ e known (t, refl, refl) same
+kind_candidate q (groups.Filter t) e known (inr (inl same)) = held q (groups.Filter t) _ e known ((t, refl, refl), tt) same
 kind_candidate q (groups.Filter t) e known (inr (inr (i, there, same))) =
-    held q (groups.Filter t) _ e known (t, refl, there) same
+    held q (groups.Filter t) _ e known ((t, refl, refl), there) same
 kind_candidate q (groups.Join set) e known (inl same) = held q (groups.Join set) _ e known (set, refl) same
 kind_candidate q (groups.Join set) e known (inr (inl (inl (a, b, falls, same)))) =
     held q (groups.Join set) _ e known (set, a, b, refl, falls, refl, refl) same
 kind_candidate q (groups.Join set) e known (inr (inl (inr (a, b, falls, same)))) =
-    held q (groups.Join set) _ e known (set, a, b, refl, falls, refl, refl) same
+    held q (groups.Join set) _ e known ((set, a, b, refl, falls, refl, refl), tt) same
 kind_candidate q (groups.Join set) e known (inr (inr (inl (a, b, falls, same)))) =
-    held q (groups.Join set) _ e known (set, a, b, refl, falls, refl, refl) same
+    held q (groups.Join set) _ e known ((set, a, b, refl, falls, refl, refl), tt) same
 kind_candidate q (groups.Join set) e known (inr (inr (inr (a, b, falls, same)))) =
-    held q (groups.Join set) _ e known (set, a, b, refl, falls, refl, refl) same
+    held q (groups.Join set) _ e known ((set, a, b, refl, falls, refl, refl), tt) same
 kind_candidate q groups.Partial e known (inl same) = held q groups.Partial _ e known (refl, refl) same
-kind_candidate q groups.Partial e known (inr same) = held q groups.Partial _ e known (refl, refl) same
+kind_candidate q groups.Partial e known (inr same) = held q groups.Partial _ e known ((refl, refl), tt) same
 kind_candidate q groups.Agg e known (inl (inl same)) = held q groups.Agg _ e known (refl, inl refl) same
 kind_candidate q groups.Agg e known (inl (inr same)) = held q groups.Agg _ e known (refl, inr refl) same
-kind_candidate q groups.Agg e known (inr (inl (inl same))) = held q groups.Agg _ e known (refl, inl refl) same
-kind_candidate q groups.Agg e known (inr (inl (inr same))) = held q groups.Agg _ e known (refl, inr refl) same
-kind_candidate q groups.Agg e known (inr (inr (inl same))) = held q groups.Agg _ e known (refl, inl refl) same
-kind_candidate q groups.Agg e known (inr (inr (inr same))) = held q groups.Agg _ e known (refl, inr refl) same
+kind_candidate q groups.Agg e known (inr (inl (inl same))) = held q groups.Agg _ e known ((refl, inl refl), tt) same
+kind_candidate q groups.Agg e known (inr (inl (inr same))) = held q groups.Agg _ e known ((refl, inr refl), tt) same
+kind_candidate q groups.Agg e known (inr (inr (inl same))) = held q groups.Agg _ e known ((refl, inl refl), tt) same
+kind_candidate q groups.Agg e known (inr (inr (inr same))) = held q groups.Agg _ e known ((refl, inr refl), tt) same
 
 -- the least of the kind from the bound on is the next candidate, where the words from the bound on are those after the
 -- one before

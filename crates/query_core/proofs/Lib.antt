@@ -5,6 +5,7 @@ pub mod TrueLinks
 pub mod Linking
 pub mod Whole
 pub mod ExpressionLemmas
+pub mod Implementations
 pub mod CandidateLemmas
 pub mod Splitting
 pub mod Least

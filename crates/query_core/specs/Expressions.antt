@@ -1,5 +1,5 @@
 -- Group expressions: their words, those that a group can hold, and the one with which a group begins.
-use Rattle.std.specs.Prelude.{ℕ, Bool, true, false, Option, None, ◌≡◌, ◌⊎◌, ◌<◌, ◌+◌, ◌*◌, ◌/◌, ◌%◌, ◌^◌, length}
+use Rattle.std.specs.Prelude.{ℕ, Bool, true, false, Option, None, ◌≡◌, ◌⊎◌, ◌<◌, ◌+◌, ◌*◌, ◌/◌, ◌%◌, ◌^◌, length, ⊤}
 use Rattle.std.specs.Prelude.{slice_get, Some, IsTrue, bit_or, bit_and}
 use Rattle.query_core.specs.Connected.{IsConnected}
 use Rattle.query_core.specs.Keys.{key_number, IsInRange, IsGroup, top_of, input_of}
@@ -16,6 +16,8 @@ use Rattle.query_core.specs.declared.expressions.Operator.TheVariants as operato
 use Rattle.query_core.specs.declared.expressions.Children.{Children}
 use Rattle.query_core.specs.declared.expressions.Children.TheVariants.{Zero, One, Two}
 use Rattle.query_core.specs.declared.expressions.Fields.{Fields}
+use Rattle.query_core.specs.declared.expressions.Access.{Access}
+use Rattle.query_core.specs.declared.expressions.Access.TheVariants.{Direct, Index}
 use Rattle.query_core.specs.declared.expressions.PhysicalExpr.{PhysicalExpr}
 use Rattle.query_core.specs.declared.expressions.ExprParts.{ExprParts}
 
@@ -182,18 +184,68 @@ HasLogical q group (logical.Join left right) = IsJoin q group left right
 HasLogical q group (logical.Agg child) = IsAggregated q group child
 HasLogical q group (logical.Partial child) = IsPartial q group child
 
--- the group that a physical operator can have, with its index and its children
+-- ---- what physical operators implement
+
+-- the table whose rows a group has
+abbrev pub table_in : KeyParts → ℕ
+table_in (groups.Get t) = t
+table_in (groups.Filter t) = t
+table_in (groups.Join set) = 0
+table_in groups.Partial = 0
+table_in groups.Agg = 0
+
+-- the rows of a table before its own predicates are applied
+abbrev pub unfiltered : KeyParts → KeyParts
+unfiltered (groups.Get t) = groups.Get t
+unfiltered (groups.Filter t) = groups.Get t
+unfiltered (groups.Join set) = groups.Join set
+unfiltered groups.Partial = groups.Partial
+unfiltered groups.Agg = groups.Agg
+
+-- the logical operator of the group that a physical one implements
+abbrev pub implements : KeyParts → Physical → Logical
+implements group physical.Scan = logical.Get
+implements group (physical.IndexScan index) = logical.Get
+implements group (physical.Filter child) = logical.Select child
+implements group (physical.IndexSeek index) = logical.Select (unfiltered group)
+implements group (physical.HashJoin left right) = logical.Join left right
+implements group (physical.MergeJoin left right) = logical.Join left right
+implements group (physical.LoopJoin left right) = logical.Join left right
+implements group (physical.HashAgg child) = logical.Agg child
+implements group (physical.StreamAgg child) = logical.Agg child
+implements group (physical.PartialAgg child) = logical.Partial child
+
+-- how it comes to its rows: as the logical one says, or by an index of the table
+abbrev pub access : Physical → Access
+access physical.Scan = Direct
+access (physical.IndexScan index) = Index index
+access (physical.Filter child) = Direct
+access (physical.IndexSeek index) = Index index
+access (physical.HashJoin left right) = Direct
+access (physical.MergeJoin left right) = Direct
+access (physical.LoopJoin left right) = Direct
+access (physical.HashAgg child) = Direct
+access (physical.StreamAgg child) = Direct
+access (physical.PartialAgg child) = Direct
+
+-- what is read by an index has no children
+abbrev pub children_by : Access → Children → Children
+children_by Direct children = children
+children_by (Index index) children = Zero
+
+-- the number of the index that is read, else 0
+abbrev pub index_by : Access → ℕ
+index_by Direct = 0
+index_by (Index index) = index
+
+-- the group's table has the index that is read, if one is
+abbrev pub HasAccess : Query → KeyParts → Access → Type 0
+HasAccess q group Direct = ⊤
+HasAccess q group (Index index) = HasIndex q (table_in group) index
+
+-- a group can have a physical operator where it can have the logical one that this implements
 abbrev pub HasPhysical : Query → KeyParts → Physical → Type 0
-HasPhysical q group physical.Scan = (t : ℕ) × (group ≡ groups.Get t)
-HasPhysical q group (physical.IndexScan index) = (t : ℕ) × (group ≡ groups.Get t) × HasIndex q t index
-HasPhysical q group (physical.Filter child) = IsFiltered group child
-HasPhysical q group (physical.IndexSeek index) = (t : ℕ) × (group ≡ groups.Filter t) × HasIndex q t index
-HasPhysical q group (physical.HashJoin left right) = IsJoin q group left right
-HasPhysical q group (physical.MergeJoin left right) = IsJoin q group left right
-HasPhysical q group (physical.LoopJoin left right) = IsJoin q group left right
-HasPhysical q group (physical.HashAgg child) = IsAggregated q group child
-HasPhysical q group (physical.StreamAgg child) = IsAggregated q group child
-HasPhysical q group (physical.PartialAgg child) = IsPartial q group child
+HasPhysical q group o = HasLogical q group (implements group o) × HasAccess q group (access o)
 
 -- the group can have the operator over its children
 abbrev pub HasShape : Query → KeyParts → Operator → Type 0

@@ -3,6 +3,7 @@
 
 ghost use Rattle.std.specs.Prelude.{◌≡◌, MatchOption};
 ghost use Rattle.query_core.specs.Expressions.{children_of, expr_of, fields_of, logical_fields, physical_children, physical_fields, is_logical as is_logical_operator};
+ghost use Rattle.query_core.specs.Expressions.{implements as implemented, access as access_of, unfiltered as group_unfiltered};
 
 use crate::words::KeyParts;
 
@@ -62,6 +63,15 @@ pub enum Children {
     One(KeyParts),
     /// The left group and the right one.
     Two(KeyParts, KeyParts),
+}
+
+/// How a physical operator comes to its rows.
+#[derive(Clone, Copy)]
+pub enum Access {
+    /// As the logical operator that it implements says.
+    Direct,
+    /// By the table's index of this number.
+    Index(u32),
 }
 
 /// What a word has of an operator.
@@ -233,6 +243,42 @@ impl Logical {
 }
 
 impl Physical {
+    /// The logical operator of the group that it implements.
+    pub fn implements(self, group: KeyParts) -> Logical
+        ensures { result ≡ implemented group self }
+    {
+        match self {
+            Physical::Scan => Logical::Get,
+            Physical::IndexScan(_) => Logical::Get,
+            Physical::Filter(child) => Logical::Select(child),
+            Physical::IndexSeek(_) => Logical::Select(unfiltered(group)),
+            Physical::HashJoin(left, right) => Logical::Join(left, right),
+            Physical::MergeJoin(left, right) => Logical::Join(left, right),
+            Physical::LoopJoin(left, right) => Logical::Join(left, right),
+            Physical::HashAgg(child) => Logical::Agg(child),
+            Physical::StreamAgg(child) => Logical::Agg(child),
+            Physical::PartialAgg(child) => Logical::Partial(child),
+        }
+    }
+
+    /// How it comes to its rows.
+    pub fn access(self) -> Access
+        ensures { result ≡ access_of self }
+    {
+        match self {
+            Physical::Scan => Access::Direct,
+            Physical::IndexScan(index) => Access::Index(index),
+            Physical::Filter(_) => Access::Direct,
+            Physical::IndexSeek(index) => Access::Index(index),
+            Physical::HashJoin(_, _) => Access::Direct,
+            Physical::MergeJoin(_, _) => Access::Direct,
+            Physical::LoopJoin(_, _) => Access::Direct,
+            Physical::HashAgg(_) => Access::Direct,
+            Physical::StreamAgg(_) => Access::Direct,
+            Physical::PartialAgg(_) => Access::Direct,
+        }
+    }
+
     fn fields(self) -> Fields
         ensures { result ≡ physical_fields self }
     {
@@ -268,6 +314,19 @@ impl Physical {
             (16, 0, Children::One(child)) => Some(Physical::PartialAgg(child)),
             _ => None,
         }
+    }
+}
+
+/// The rows of a table before its own predicates are applied.
+fn unfiltered(group: KeyParts) -> KeyParts
+    ensures { result ≡ group_unfiltered group }
+{
+    match group {
+        KeyParts::Get(table) => KeyParts::Get(table),
+        KeyParts::Filter(table) => KeyParts::Get(table),
+        KeyParts::Join(set) => KeyParts::Join(set),
+        KeyParts::Partial => KeyParts::Partial,
+        KeyParts::Agg => KeyParts::Agg,
     }
 }
 

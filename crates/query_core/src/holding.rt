@@ -3,9 +3,10 @@
 
 ghost use Rattle.std.specs.Prelude.{◌≡◌, ℕ, IsTrue, ◌↔◌};
 ghost use Rattle.query_core.specs.Keys.{IsInRange, top_of};
-ghost use Rattle.query_core.specs.Expressions.{children_of, logical_fields, physical_fields, AreInRange, HasIndex, HasLogical, HasPhysical, HasShape, IsAggregated, IsCandidate, IsCandidateWord, IsFiltered, IsJoin, IsPartial, FallsInto, IsPacked};
+ghost use Rattle.query_core.specs.Expressions.{children_of, logical_fields, physical_fields, AreInRange, HasIndex, HasLogical, HasPhysical, HasShape, IsAggregated, IsCandidate, IsCandidateWord, IsFiltered, IsJoin, IsPartial, FallsInto, IsPacked, HasAccess};
+ghost use Rattle.query_core.specs.Expressions.{table_in as table_of_group};
 
-use crate::expressions::{ExprParts, Logical, Operator, Physical};
+use crate::expressions::{Access, ExprParts, Logical, Operator, Physical};
 use crate::query::Query;
 use crate::words::{Expr, KeyParts};
 
@@ -29,7 +30,8 @@ impl Query {
     }
 
     fn has_shape(&self, group: KeyParts, operator: Operator) -> bool
-        requires { AreInRange (children_of operator) }
+        requires group { IsInRange group }
+        requires children { AreInRange (children_of operator) }
         ensures { IsTrue result ↔ HasShape self.now group operator }
     {
         match operator {
@@ -52,41 +54,23 @@ impl Query {
         }
     }
 
+    // A physical operator, where the group can have the logical one that it implements.
     fn has_physical(&self, group: KeyParts, operator: Physical) -> bool
-        requires { AreInRange (physical_fields operator).children }
+        requires group { IsInRange group }
+        requires children { AreInRange (physical_fields operator).children }
         ensures { IsTrue result ↔ HasPhysical self.now group operator }
     {
-        match operator {
-            Physical::Scan => is_get(group),
-            Physical::IndexScan(index) => self.is_scanned(group, index),
-            Physical::Filter(child) => is_filtered(group, child),
-            Physical::IndexSeek(index) => self.is_sought(group, index),
-            Physical::HashJoin(left, right) => self.is_join_of(group, left, right),
-            Physical::MergeJoin(left, right) => self.is_join_of(group, left, right),
-            Physical::LoopJoin(left, right) => self.is_join_of(group, left, right),
-            Physical::HashAgg(child) => self.is_aggregated(group, child),
-            Physical::StreamAgg(child) => self.is_aggregated(group, child),
-            Physical::PartialAgg(child) => self.is_partial(group, child),
-        }
+        self.has_logical(group, operator.implements(group))
+            && self.has_access(group, operator.access())
     }
 
-    fn is_scanned(&self, group: KeyParts, index: u32) -> bool
-        ensures { IsTrue result ↔
-            ((t : ℕ) × (group ≡ KeyParts.Get t) × HasIndex self.now t index) }
+    // Whether the group's table has the index, if one is read.
+    fn has_access(&self, group: KeyParts, access: Access) -> bool
+        ensures { IsTrue result ↔ HasAccess self.now group access }
     {
-        match group {
-            KeyParts::Get(table) => self.has_index(table, index),
-            _ => false,
-        }
-    }
-
-    fn is_sought(&self, group: KeyParts, index: u32) -> bool
-        ensures { IsTrue result ↔
-            ((t : ℕ) × (group ≡ KeyParts.Filter t) × HasIndex self.now t index) }
-    {
-        match group {
-            KeyParts::Filter(table) => self.has_index(table, index),
-            _ => false,
+        match access {
+            Access::Direct => true,
+            Access::Index(index) => self.has_index(table_in(group), index),
         }
     }
 
@@ -132,6 +116,19 @@ impl Query {
         ensures { IsTrue result ↔ IsPartial self.now group child }
     {
         group == KeyParts::Partial && child == self.input()
+    }
+}
+
+/// The table whose rows a group has.
+pub fn table_in(group: KeyParts) -> u32
+    ensures { result ≡ table_of_group group }
+{
+    match group {
+        KeyParts::Get(table) => table,
+        KeyParts::Filter(table) => table,
+        KeyParts::Join(_) => 0,
+        KeyParts::Partial => 0,
+        KeyParts::Agg => 0,
     }
 }
 
