@@ -4,7 +4,7 @@ use Rattle.std.specs.Prelude.{bit_or, IfSome}
 use Rattle.query_core.specs.Sets.{Has}
 use Rattle.query_core.specs.Connected.{IsConnected, AreLinked}
 use Rattle.query_core.specs.Keys.{IsGroup, top_of, tables_of}
-use Rattle.query_core.specs.Expressions.{HasLogical, HasPhysical, HasShape, FallsInto, IsCandidate}
+use Rattle.query_core.specs.Expressions.{table_in, unfiltered, HasIndex, HasLogical, HasPhysical, HasShape, FallsInto, IsCandidate}
 use Rattle.query_core.specs.declared.query.Query.{Query}
 use Rattle.query_core.specs.declared.words.KeyParts.{KeyParts}
 use Rattle.query_core.specs.declared.words.KeyParts.TheVariants as groups
@@ -99,37 +99,42 @@ module _ (sides : AreSides) (q : Query) (group : KeyParts) (known : IsGroup q gr
   split to (is, made) = subst (HasLogical q group) (sym made) ((subst (HasLogical q group) is shape).0, inr refl)
 
   scanned : (to : Physical) → Scans from to → HasPhysical q group to
-  scanned to (is, made) = subst (HasPhysical q group) (sym made) (subst (HasLogical q group) is shape)
+  scanned to (is, made) = subst (HasPhysical q group) (sym made) (subst (HasLogical q group) is shape, tt)
 
   scanned_by_index : (n : ℕ) (to : Physical) → ScansIndex q group from n to → HasPhysical q group to
-  scanned_by_index n to ((t, is, is_group, index), made) = subst (HasPhysical q group) (sym made) (t, is_group, index)
+  scanned_by_index n to ((t, is, is_group, index), made) = subst (HasPhysical q group) (sym made)
+      ((t, is_group), subst (λ g. HasIndex q (table_in g) n) (sym is_group) index)
 
   filtered : (to : Physical) → Filters from to → HasPhysical q group to
-  filtered to (child, is, made) = subst (HasPhysical q group) (sym made) (subst (HasLogical q group) is shape)
+  filtered to (child, is, made) = subst (HasPhysical q group) (sym made) (subst (HasLogical q group) is shape, tt)
 
   sought : (n : ℕ) (to : Physical) → SeeksIndex q group from n to → HasPhysical q group to
   sought n to (index, (t, is, is_group, usable), made) =
-      subst (HasPhysical q group) (sym made) (t, is_group, usable_there q t n index usable)
+      subst (HasPhysical q group) (sym made) (
+        (t, is_group, ap unfiltered is_group),
+        subst (λ g. HasIndex q (table_in g) index) (sym is_group) (usable_there q t n index usable),
+      )
 
   hashed : (to : Physical) → Hashes q from to → HasPhysical q group to
   hashed to (left, right, (is, crossing), made) =
-      subst (HasPhysical q group) (sym made) (subst (HasLogical q group) is shape)
+      subst (HasPhysical q group) (sym made) (subst (HasLogical q group) is shape, tt)
 
   merged : (to : Physical) → Merges q from to → HasPhysical q group to
   merged to (left, right, (is, crossing), made) =
-      subst (HasPhysical q group) (sym made) (subst (HasLogical q group) is shape)
+      subst (HasPhysical q group) (sym made) (subst (HasLogical q group) is shape, tt)
 
   looped : (to : Physical) → Loops from to → HasPhysical q group to
-  looped to (left, right, is, made) = subst (HasPhysical q group) (sym made) (subst (HasLogical q group) is shape)
+  looped to (left, right, is, made) = subst (HasPhysical q group) (sym made) (subst (HasLogical q group) is shape, tt)
 
   by_hash : (to : Physical) → GroupsByHash from to → HasPhysical q group to
-  by_hash to (child, is, made) = subst (HasPhysical q group) (sym made) (subst (HasLogical q group) is shape)
+  by_hash to (child, is, made) = subst (HasPhysical q group) (sym made) (subst (HasLogical q group) is shape, tt)
 
   in_order : (to : Physical) → GroupsInOrder q from to → HasPhysical q group to
-  in_order to (child, is, columns, made) = subst (HasPhysical q group) (sym made) (subst (HasLogical q group) is shape)
+  in_order to (child, is, columns, made) =
+      subst (HasPhysical q group) (sym made) (subst (HasLogical q group) is shape, tt)
 
   partly : (to : Physical) → GroupsPartly from to → HasPhysical q group to
-  partly to (child, is, made) = subst (HasPhysical q group) (sym made) (subst (HasLogical q group) is shape)
+  partly to (child, is, made) = subst (HasPhysical q group) (sym made) (subst (HasLogical q group) is shape, tt)
 
   -- the group can have what comes of it
   logically : (P : Logical → Type 0) → ((to : Logical) → P to → HasLogical q group to) → (to : Operator)

@@ -3,7 +3,7 @@ use Rattle.std.proofs.Common.{◌≡◌, ℕ, refl, ap, sym, subst, ◌∙◌, �
 use Rattle.std.proofs.lemmas.Bool.{false≢true}
 use Rattle.query_core.specs.Keys.{root_of}
 use Rattle.query_core.specs.Expressions.{logical_fields, physical_children, IsChild, is_logical, HasLogical}
-use Rattle.query_core.specs.Expressions.{HasPhysical, HasShape, IsFiltered, IsCandidate, origin_of}
+use Rattle.query_core.specs.Expressions.{unfiltered, HasShape, IsFiltered, IsCandidate, origin_of}
 use Rattle.query_core.specs.declared.query.Query.{Query}
 use Rattle.query_core.specs.declared.words.KeyParts.{KeyParts}
 use Rattle.query_core.specs.declared.expressions.Logical.{Logical}
@@ -22,7 +22,7 @@ use Rattle.xform_rules.specs.SplitAgg.{SplitsGrouping}
 use Rattle.xform_rules.specs.Rules.{IsOn}
 use Rattle.xform_rules.specs.Results.{Gives, GivesWith, HasResult}
 use Rattle.xform_rules.specs.Closure.{IsMember, root_origin, child_origin, result, bound_result}
-use Rattle.xform_rules.specs.Implemented.{unfiltered, implemented_by}
+use Rattle.xform_rules.specs.Implemented.{implemented_by}
 use Rattle.xform_rules.proofs.Operators.{logical_from, expr_one}
 
 -- ---- what a rule gives without a bound member
@@ -109,21 +109,9 @@ implemented_child q g from shape rule n to gives c is =
     (own_child g to c is)
 
 -- the logical expression is one that the group can hold
-logical_shape : (q : Query) (g : KeyParts) (to : Physical) → HasPhysical q g to → HasLogical q g (implemented_by g to).1
-logical_shape q g physical.Scan shape = shape
-logical_shape q g (physical.IndexScan index) (t, own, there) = (t, own)
-logical_shape q g (physical.Filter child) shape = shape
-logical_shape q g (physical.IndexSeek index) (t, own, there) = (t, own, ap unfiltered own)
-logical_shape q g (physical.HashJoin left right) shape = shape
-logical_shape q g (physical.MergeJoin left right) shape = shape
-logical_shape q g (physical.LoopJoin left right) shape = shape
-logical_shape q g (physical.HashAgg child) shape = shape
-logical_shape q g (physical.StreamAgg child) shape = shape
-logical_shape q g (physical.PartialAgg child) shape = shape
-
 pub logical_candidate : (q : Query) (g : KeyParts) (to : Physical) → IsCandidate q (physical_in g to)
     → IsCandidate q (logical_in g (implemented_by g to).1)
-logical_candidate q g to candidate = record { known = candidate.known; shape = logical_shape q g to candidate.shape }
+logical_candidate q g to candidate = record { known = candidate.known; shape = candidate.shape.0 }
 
 -- ---- physical members
 

@@ -6,7 +6,7 @@ ghost use Rattle.query_core.specs.Expressions.{IsCandidate, IsCandidateWord, IsP
 ghost use Rattle.xform_rules.specs.Forms.{logical_in, physical_in};
 ghost use Rattle.xform_rules.specs.Results.{HasResult};
 ghost use Rattle.xform_rules.specs.Closure.{IsMember, IsMemberWord};
-ghost use Rattle.xform_rules.specs.Implemented.{implemented_by, unfiltered};
+ghost use Rattle.xform_rules.specs.Implemented.{implemented_by, rule_of as giving_rule};
 
 use crate::joins_held::{has_join, has_join_group};
 use crate::laws::{members_are_candidates, results_are_candidates};
@@ -72,33 +72,24 @@ fn is_physical_member(query: &Query, group: KeyParts, to: Physical) -> bool
 fn implemented(group: KeyParts, to: Physical) -> (Rule, Logical)
     ensures { result ≡ implemented_by group to }
 {
-    match to {
-        Physical::Scan => (Rule::GetToScan, Logical::Get),
-        Physical::IndexScan(_) => (Rule::GetToIndexScan, Logical::Get),
-        Physical::Filter(child) => (Rule::SelectToFilter, Logical::Select(child)),
-        Physical::IndexSeek(_) => (
-            Rule::SelectToIndexSeek,
-            Logical::Select(unfiltered_group(group)),
-        ),
-        Physical::HashJoin(left, right) => (Rule::JoinToHash, Logical::Join(left, right)),
-        Physical::MergeJoin(left, right) => (Rule::JoinToMerge, Logical::Join(left, right)),
-        Physical::LoopJoin(left, right) => (Rule::JoinToLoop, Logical::Join(left, right)),
-        Physical::HashAgg(child) => (Rule::AggToHash, Logical::Agg(child)),
-        Physical::StreamAgg(child) => (Rule::AggToStream, Logical::Agg(child)),
-        Physical::PartialAgg(child) => (Rule::PartialToHash, Logical::Partial(child)),
-    }
+    (rule_of(to), to.implements(group))
 }
 
-/// The rows of a table before its own predicates are applied.
-fn unfiltered_group(group: KeyParts) -> KeyParts
-    ensures { result ≡ unfiltered group }
+/// The rule that gives a physical operator.
+fn rule_of(to: Physical) -> Rule
+    ensures { result ≡ giving_rule to }
 {
-    match group {
-        KeyParts::Get(table) => KeyParts::Get(table),
-        KeyParts::Filter(table) => KeyParts::Get(table),
-        KeyParts::Join(set) => KeyParts::Join(set),
-        KeyParts::Partial => KeyParts::Partial,
-        KeyParts::Agg => KeyParts::Agg,
+    match to {
+        Physical::Scan => Rule::GetToScan,
+        Physical::IndexScan(_) => Rule::GetToIndexScan,
+        Physical::Filter(_) => Rule::SelectToFilter,
+        Physical::IndexSeek(_) => Rule::SelectToIndexSeek,
+        Physical::HashJoin(_, _) => Rule::JoinToHash,
+        Physical::MergeJoin(_, _) => Rule::JoinToMerge,
+        Physical::LoopJoin(_, _) => Rule::JoinToLoop,
+        Physical::HashAgg(_) => Rule::AggToHash,
+        Physical::StreamAgg(_) => Rule::AggToStream,
+        Physical::PartialAgg(_) => Rule::PartialToHash,
     }
 }
 
