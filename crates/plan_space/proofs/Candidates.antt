@@ -3,12 +3,14 @@ use Rattle.std.proofs.Common.{◌≡◌, ℕ, refl, sym, subst, ◌∙◌, inl, 
 use Rattle.std.specs.Prelude.{Option, None, Some, slice_get}
 use Rattle.std.specs.Option.{option_map}
 use Rattle.query_core.specs.Expressions.{expr_of, physical_children, IsFiltered, IsJoin, IsAggregated}
-use Rattle.query_core.specs.Expressions.{IsPartial, IsCandidate}
+use Rattle.query_core.specs.Expressions.{table_in, IsPartial, IsCandidate}
 use Rattle.query_core.specs.Items.{is_column_of}
 use Rattle.query_core.specs.Keys.{has_item, input_of, top_of}
 use Rattle.query_core.specs.declared.query.Query.{Query}
 use Rattle.query_core.specs.declared.words.KeyParts.{KeyParts}
 use Rattle.query_core.specs.declared.words.KeyParts.TheVariants as groups
+use Rattle.query_core.specs.declared.expressions.Access.{Access}
+use Rattle.query_core.specs.declared.expressions.Access.TheVariants as accesses
 use Rattle.query_core.specs.declared.expressions.PhysicalExpr.{PhysicalExpr}
 use Rattle.query_core.specs.declared.expressions.Children.{Children}
 use Rattle.query_core.specs.declared.expressions.Children.TheVariants.{Zero, One, Two}
@@ -18,11 +20,9 @@ use Rattle.request_props.specs.declared.given.GivenOrder.TheVariants.{Listed, In
 use Rattle.plan_space.specs.Gives.{gives_so}
 use Rattle.request_props.specs.Numbered.{IsNumbered, order_of}
 use Rattle.request_props.specs.Lying.{OrderLiesIn}
-use Rattle.plan_space.specs.Lines.{in_order, single_line, table_in, dists_of_table, table_line, order_read, join_line}
+use Rattle.plan_space.specs.Lines.{in_order, single_line, dists_of_table, table_line, order_read, join_line}
 use Rattle.plan_space.specs.Lines.{grouped_order, way_line, line_of}
 use Rattle.plan_space.specs.Ways.{way_of}
-use Rattle.plan_space.specs.declared.ways.Reading.{Reading}
-use Rattle.plan_space.specs.declared.ways.Reading.TheVariants.{InNoOrder, ByIndex}
 use Rattle.plan_space.specs.declared.ways.Kept.TheVariants.{Rows, SpreadRows}
 use Rattle.plan_space.specs.declared.ways.JoinBy.{JoinBy}
 use Rattle.plan_space.specs.declared.ways.JoinBy.TheVariants as joins
@@ -139,7 +139,7 @@ module _ (one : ListingIsOne) (q : Query) where
   -- what stands on two groups joins them
   joins_by : (group left right : KeyParts) (way : Way) → WayShape q group way → way_children way ≡ Two left right
       → IsJoin q group left right
-  joins_by group left right (ways.Reads reading) shape is = cc
+  joins_by group left right (ways.Reads access) shape is = cc
   joins_by group left right (ways.Passes kept child) shape is = cc
   joins_by group left right (ways.Joins by first second) shape is =
       let one_left : first ≡ left = cc in
@@ -159,20 +159,20 @@ module _ (one : ListingIsOne) (q : Query) where
 
   -- the rows of a table, read in any of the orders in which it can be, lie in its group
   read_fits : (t : ℕ) (own : KeyParts) → ((i : ℕ) → IsTrue (is_column_of q.items t i) → IsTrue (has_item q own i))
-      → table_in own ≡ t → (reading : Reading) → ReadsFit q (table_in own) own (order_read own reading)
-  read_fits t own columns is InNoOrder =
+      → table_in own ≡ t → (access : Access) → ReadsFit q (table_in own) own (order_read own access)
+  read_fits t own columns is accesses.Direct =
       subst (λ x. ReadsFit q x own (Listed 0)) (sym is) (scan_fits one q t own columns)
-  read_fits t own columns is (ByIndex index) =
+  read_fits t own columns is (accesses.Index index) =
       subst (λ x. ReadsFit q x own (Index x index)) (sym is) (index_scan_fits one q t own columns index)
 
-  reads_fit : (group : KeyParts) (reading : Reading) (mode : Mode) (line : Line) → WayShape q group (ways.Reads reading)
-      → table_line q group (order_read group reading) mode ≡ Some line → IsFitting q group Zero line
-  reads_fit group reading mode line (t, inl of_table) is =
-      table_line_fits group (groups.Get t) (λ g. order_read g reading) mode line of_table is
-      (read_fits t (groups.Get t) (λ i column. column) refl reading)
-  reads_fit group reading mode line (t, inr of_table) is =
-      table_line_fits group (groups.Filter t) (λ g. order_read g reading) mode line of_table is
-      (read_fits t (groups.Filter t) (λ i column. column) refl reading)
+  reads_fit : (group : KeyParts) (access : Access) (mode : Mode) (line : Line) → WayShape q group (ways.Reads access)
+      → table_line q group (order_read group access) mode ≡ Some line → IsFitting q group Zero line
+  reads_fit group access mode line (t, inl of_table) is =
+      table_line_fits group (groups.Get t) (λ g. order_read g access) mode line of_table is
+      (read_fits t (groups.Get t) (λ i column. column) refl access)
+  reads_fit group access mode line (t, inr of_table) is =
+      table_line_fits group (groups.Filter t) (λ g. order_read g access) mode line of_table is
+      (read_fits t (groups.Filter t) (λ i column. column) refl access)
 
   join_line_fits : (by : JoinBy) (group left right : KeyParts) (mode : Mode) (line : Line) → IsJoin q group left right
       → join_line q by left right mode ≡ Some line → IsFitting q group (Two left right) line
@@ -195,7 +195,7 @@ module _ (one : ListingIsOne) (q : Query) where
   -- the lines of a way of which a group of the query can have an operator
   way_line_fits : (group : KeyParts) (way : Way) (mode : Mode) (line : Line) → WayShape q group way
       → way_line q group way mode ≡ Some line → IsFitting q group (way_children way) line
-  way_line_fits group (ways.Reads reading) mode line shape is = reads_fit group reading mode line shape is
+  way_line_fits group (ways.Reads access) mode line shape is = reads_fit group access mode line shape is
   way_line_fits group (ways.Passes Rows child) mode line shape is = filter_over group child mode line shape is
   way_line_fits group (ways.Passes SpreadRows child) mode line shape is = partial_over group child mode line shape is
   way_line_fits group (ways.Joins by left right) mode line shape is =

@@ -137,7 +137,7 @@ module _ (q : Query) (group : KeyParts) where
   none_lesser = record { keys = tt; nodes = some_nodes group }
 
   way_lesser : (way : Way) → WayShape q group way → AreLesser group (groups_of (way_children way))
-  way_lesser (Reads reading) shape = none_lesser
+  way_lesser (Reads access) shape = none_lesser
   way_lesser (Passes Rows child) shape = filtered_lesser child shape
   way_lesser (Passes SpreadRows child) shape = partial_lesser child shape
   way_lesser (Joins by left right) shape = joined_lesser left right shape

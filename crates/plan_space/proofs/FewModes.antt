@@ -72,7 +72,7 @@ module _ (q : Query) (most : ℕ) (lists_fit : length (lists_of q) ≤ most) (pr
   join_few joins.Looping left right number = no_line number
 
   hashed_few : (group : KeyParts) (way : Way) (number : ℕ) → IsFew (way_line q group way (Hashed number)) number
-  hashed_few group (ways.Reads reading) number = no_line number
+  hashed_few group (ways.Reads access) number = no_line number
   hashed_few group (ways.Passes kept child) number = no_line number
   hashed_few group (ways.Joins by left right) number = join_few by left right number
   hashed_few group (ways.Groups by child) number = agg_few (grouped_order q by) number

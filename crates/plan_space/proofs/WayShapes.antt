@@ -15,14 +15,14 @@ use Rattle.plan_space.specs.declared.ways.Way.TheVariants.{Reads, Passes, Joins,
 
 -- the groups that a way stands on
 abbrev pub way_children : Way → Children
-way_children (Reads reading) = Zero
+way_children (Reads access) = Zero
 way_children (Passes kept child) = One child
 way_children (Joins by left right) = Two left right
 way_children (Groups by child) = One child
 
 -- what holds of a group that can have an operator which works so
 abbrev pub WayShape : Query → KeyParts → Way → Type 0
-WayShape q group (Reads reading) = (t : ℕ) × ((group ≡ groups.Get t) ⊎ (group ≡ groups.Filter t))
+WayShape q group (Reads access) = (t : ℕ) × ((group ≡ groups.Get t) ⊎ (group ≡ groups.Filter t))
 WayShape q group (Passes Rows child) = IsFiltered group child
 WayShape q group (Passes SpreadRows child) = IsPartial q group child
 WayShape q group (Joins by left right) = IsJoin q group left right
@@ -34,13 +34,13 @@ children_same o = grind arith
 
 -- a group that can have an operator is as its way says
 pub way_shape : (q : Query) (group : KeyParts) (o : Physical) → HasPhysical q group o → WayShape q group (way_of o)
-way_shape q group physical.Scan (t, is) = (t, inl is)
-way_shape q group (physical.IndexScan index) (t, is, there) = (t, inl is)
-way_shape q group (physical.Filter child) shape = shape
-way_shape q group (physical.IndexSeek index) (t, is, there) = (t, inr is)
-way_shape q group (physical.HashJoin left right) shape = shape
-way_shape q group (physical.MergeJoin left right) shape = shape
-way_shape q group (physical.LoopJoin left right) shape = shape
-way_shape q group (physical.HashAgg child) shape = shape
-way_shape q group (physical.StreamAgg child) shape = shape
-way_shape q group (physical.PartialAgg child) shape = shape
+way_shape q group physical.Scan ((t, is), direct) = (t, inl is)
+way_shape q group (physical.IndexScan index) ((t, is), there) = (t, inl is)
+way_shape q group (physical.Filter child) shape = shape.0
+way_shape q group (physical.IndexSeek index) ((t, is, under), there) = (t, inr is)
+way_shape q group (physical.HashJoin left right) shape = shape.0
+way_shape q group (physical.MergeJoin left right) shape = shape.0
+way_shape q group (physical.LoopJoin left right) shape = shape.0
+way_shape q group (physical.HashAgg child) shape = shape.0
+way_shape q group (physical.StreamAgg child) shape = shape.0
+way_shape q group (physical.PartialAgg child) shape = shape.0

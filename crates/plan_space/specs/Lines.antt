@@ -5,7 +5,9 @@ use Rattle.std.specs.Option.{option_map, option_map_or}
 use Rattle.query_core.specs.Crossing.{crossing_of}
 use Rattle.query_core.specs.declared.query.Query.{Query}
 use Rattle.query_core.specs.declared.words.KeyParts.{KeyParts}
-use Rattle.query_core.specs.declared.words.KeyParts.TheVariants as groups
+use Rattle.query_core.specs.Expressions.{table_in}
+use Rattle.query_core.specs.declared.expressions.Access.{Access}
+use Rattle.query_core.specs.declared.expressions.Access.TheVariants as accesses
 use Rattle.query_core.specs.declared.expressions.Physical.{Physical}
 use Rattle.query_core.specs.declared.expressions.PhysicalExpr.{PhysicalExpr}
 use Rattle.request_props.specs.Numbered.{lists_of, table_dist, column_list, column_order, group_order}
@@ -22,8 +24,6 @@ use Rattle.plan_space.specs.declared.lines.LeftOrder.{LeftOrder}
 use Rattle.plan_space.specs.declared.lines.LeftOrder.TheVariants as left_orders
 use Rattle.plan_space.specs.declared.lines.Line.{Line}
 use Rattle.plan_space.specs.declared.lines.Line.TheVariants.{Leaf, Above, Beside}
-use Rattle.plan_space.specs.declared.ways.Reading.{Reading}
-use Rattle.plan_space.specs.declared.ways.Reading.TheVariants.{InNoOrder, ByIndex}
 use Rattle.plan_space.specs.declared.ways.Kept.{Kept}
 use Rattle.plan_space.specs.declared.ways.Kept.TheVariants.{Rows, SpreadRows}
 use Rattle.plan_space.specs.declared.ways.JoinBy.{JoinBy}
@@ -63,14 +63,6 @@ abbrev pub single_line : Line → Mode → Option Line
 single_line line (Plain number) = only_line line number
 single_line line (Copied number) = None
 single_line line (Hashed number) = None
-
--- the table whose rows a group has
-abbrev pub table_in : KeyParts → ℕ
-table_in (groups.Get t) = t
-table_in (groups.Filter t) = t
-table_in (groups.Join set) = 0
-table_in groups.Partial = 0
-table_in groups.Agg = 0
 
 -- all rows of the table lie on each segment
 abbrev pub is_replicated : Query → ℕ → Bool
@@ -136,9 +128,9 @@ agg_line q order (Hashed number) =
 -- ---- the table
 
 -- in no order, or in that of the index of this number of the group's table
-abbrev pub order_read : KeyParts → Reading → GivenOrder
-order_read group InNoOrder = Listed 0
-order_read group (ByIndex index) = Index (table_in group) index
+abbrev pub order_read : KeyParts → Access → GivenOrder
+order_read group accesses.Direct = Listed 0
+order_read group (accesses.Index index) = Index (table_in group) index
 
 -- all rows where they lie and in their order, or rows that are shared out, in no order
 abbrev pub kept_line : Kept → Line
@@ -157,7 +149,7 @@ grouped_order q grouping.Ordered = group_order q
 
 -- the line of a group's way of working in a mode, if it has the mode
 abbrev pub way_line : Query → KeyParts → Way → Mode → Option Line
-way_line q group (Reads reading) mode = table_line q group (order_read group reading) mode
+way_line q group (Reads access) mode = table_line q group (order_read group access) mode
 way_line q group (Passes kept child) mode = single_line (kept_line kept) mode
 way_line q group (Joins by left right) mode = join_line q by left right mode
 way_line q group (Groups by child) mode = agg_line q (grouped_order q by) mode

@@ -1,7 +1,7 @@
 -- How physical operators work: the one row of each, from which all that is said of lines follows.
+use Rattle.query_core.specs.declared.expressions.Access.TheVariants.{Direct, Index}
 use Rattle.query_core.specs.declared.expressions.Physical.{Physical}
 use Rattle.query_core.specs.declared.expressions.Physical.TheVariants as physical
-use Rattle.plan_space.specs.declared.ways.Reading.TheVariants.{InNoOrder, ByIndex}
 use Rattle.plan_space.specs.declared.ways.Kept.TheVariants.{Rows, SpreadRows}
 use Rattle.plan_space.specs.declared.ways.JoinBy.TheVariants as joins
 use Rattle.plan_space.specs.declared.ways.GroupBy.TheVariants as grouping
@@ -10,10 +10,10 @@ use Rattle.plan_space.specs.declared.ways.Way.TheVariants.{Reads, Passes, Joins,
 
 -- an operator's way of working
 abbrev pub way_of : Physical → Way
-way_of physical.Scan = Reads InNoOrder
-way_of (physical.IndexScan index) = Reads (ByIndex index)
+way_of physical.Scan = Reads Direct
+way_of (physical.IndexScan index) = Reads (Index index)
 way_of (physical.Filter child) = Passes Rows child
-way_of (physical.IndexSeek index) = Reads (ByIndex index)
+way_of (physical.IndexSeek index) = Reads (Index index)
 way_of (physical.HashJoin left right) = Joins joins.Hashing left right
 way_of (physical.MergeJoin left right) = Joins joins.Merging left right
 way_of (physical.LoopJoin left right) = Joins joins.Looping left right

@@ -17,4 +17,4 @@ pub use lines::{LeftDist, LeftOrder, Line};
 pub use modes::{END as MODES_END, Mode, ModeSets};
 pub use nodes::{Enforcer, NodeKind};
 pub use seen::Kid;
-pub use ways::{GroupBy, JoinBy, Kept, Reading, Way};
+pub use ways::{GroupBy, JoinBy, Kept, Way};

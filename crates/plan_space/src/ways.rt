@@ -1,27 +1,19 @@
 //! The ways in which physical operators work.
 #![tactic(auto)]
 
-use query_core::KeyParts;
+use query_core::{Access, KeyParts};
 
 /// How an operator works, with the groups that it stands on.
 #[derive(Clone, Copy)]
 pub enum Way {
-    /// It reads a table's rows where they lie.
-    Reads(Reading),
+    /// It reads a table's rows where they lie: in no order, or in that of an index.
+    Reads(Access),
     /// It passes on what it makes of each row of the child, where that lies.
     Passes(Kept, KeyParts),
     /// It joins the rows of the left child with those of the right one.
     Joins(JoinBy, KeyParts, KeyParts),
     /// It makes the groups of GROUP BY.
     Groups(GroupBy, KeyParts),
-}
-
-/// In which order a table is read.
-#[derive(Clone, Copy)]
-pub enum Reading {
-    InNoOrder,
-    /// In that of the table's index of this number.
-    ByIndex(u32),
 }
 
 /// Which rows are passed on.
