@@ -25,7 +25,7 @@ join_children operator by left right is = children_same operator ∙ ap way_chil
 -- what stands on two groups has all rows on one segment in its plain modes
 two_on_one : (way : Way) (left right : KeyParts) → way_children way ≡ arities.Two left right
     → is_plain_on_one way ≡ true
-two_on_one (Reads reading) left right is = cc
+two_on_one (Reads access) left right is = cc
 two_on_one (Passes kept child) left right is = cc
 two_on_one (Joins by first second) left right is = refl
 two_on_one (Groups by child) left right is = refl

@@ -109,7 +109,7 @@ module _ (q : Query) (line : Line) where
 
   pub line_in : (group : KeyParts) (way : Way) (mode : Mode) → is_plain_on_one way ≡ true
       → IsKept (way_line q group way mode) mode
-  line_in group (Reads reading) mode both = cc
+  line_in group (Reads access) mode both = cc
   line_in group (Passes kept child) mode both = cc
   line_in group (Joins by left right) mode both = join_kept by left right mode
   line_in group (Groups by child) mode both = agg_kept (grouped_order q by) mode

@@ -5,6 +5,7 @@ use Rattle.std.specs.Prelude.{◌==◌, slice_get}
 use Rattle.std.specs.Option.{option_map}
 use Rattle.std.proofs.lemmas.Bool.{cases_lt, cond_both, eqb-true, ltb-true}
 use Rattle.std.proofs.lemmas.Option.{slice_get_within}
+use Rattle.query_core.specs.Expressions.{table_in}
 use Rattle.query_core.specs.Crossing.{crossing_of}
 use Rattle.query_core.specs.declared.query.Query.{Query}
 use Rattle.query_core.specs.declared.words.KeyParts.{KeyParts}
@@ -15,7 +16,7 @@ use Rattle.request_props.specs.declared.given.GivenDist.{GivenDist}
 use Rattle.request_props.specs.declared.given.GivenOrder.{GivenOrder}
 use Rattle.plan_space.specs.Lines.{only_line, single_line, loop_line, agg_line, join_line, grouped_order}
 use Rattle.plan_space.specs.Lines.{way_line, line_of}
-use Rattle.plan_space.specs.Lines.{table_in, dists_of_table, table_line}
+use Rattle.plan_space.specs.Lines.{dists_of_table, table_line}
 use Rattle.plan_space.specs.Modes.{mode_at, HasModeIn}
 use Rattle.plan_space.specs.declared.lines.Line.{Line}
 use Rattle.plan_space.specs.declared.lines.Line.TheVariants.{Leaf}
@@ -95,7 +96,7 @@ module _ (q : Query) (modes : ModeSets) (line : Line) where
 
   pub way_tried : (group : KeyParts) (way : Way) (mode : Mode) → AreTriedOf q group way modes
       → way_line q group way mode ≡ Some line → HasModeIn modes mode
-  way_tried group (Reads reading) mode are is = table_tried group are _ mode is
+  way_tried group (Reads access) mode are is = table_tried group are _ mode is
   way_tried group (Passes kept child) mode are is = single_tried are _ mode is
   way_tried group (Joins by left right) mode are is = join_tried by left right mode are is
   way_tried group (Groups by child) mode are is = agg_tried are.0 are.1 (grouped_order q by) mode is

@@ -23,7 +23,7 @@ use Rattle.plan_tree.specs.Alternatives.{HasAlternative}
 
 -- in the plain modes of the way all rows are on one segment, and in its others they are shared out
 abbrev pub is_plain_on_one : Way → Bool
-is_plain_on_one (Reads reading) = false
+is_plain_on_one (Reads access) = false
 is_plain_on_one (Passes kept child) = false
 is_plain_on_one (Joins by left right) = true
 is_plain_on_one (Groups by child) = true

@@ -1,5 +1,6 @@
 -- The modes of an expression, one after the other.
 use Rattle.std.specs.Prelude.{ℕ, ◌≡◌, ◌≤◌, ◌<◌, Option, None, Some, length}
+use Rattle.query_core.specs.Expressions.{table_in}
 use Rattle.query_core.specs.declared.expressions.PhysicalExpr.{PhysicalExpr}
 use Rattle.query_core.specs.declared.query.Query.{Query}
 use Rattle.query_core.specs.Crossing.{crossing_of}
@@ -7,7 +8,7 @@ use Rattle.query_core.specs.declared.words.KeyParts.{KeyParts}
 use Rattle.request_props.specs.Numbered.{lists_of}
 use Rattle.request_props.specs.NumberSets.{HasBelow, IsInSet}
 use Rattle.request_props.specs.declared.number_set.NumberSet.{NumberSet}
-use Rattle.plan_space.specs.Lines.{line_of, table_in, dists_of_table}
+use Rattle.plan_space.specs.Lines.{line_of, dists_of_table}
 use Rattle.plan_space.specs.Modes.{mode_at, modes_end, HasModeIn}
 use Rattle.plan_space.specs.declared.lines.Line.{Line}
 use Rattle.plan_space.specs.declared.modes.ModeSets.{ModeSets}
@@ -59,7 +60,7 @@ AreJoinsTried q joins.Looping left right modes = HasBelow modes.plain 1 × HasBe
 -- each mode of a way of working is among these: the first of a kind, those in which a table is read, or those by
 -- equalities or lists
 abbrev pub AreTriedOf : Query → KeyParts → Way → ModeSets → Type 0
-AreTriedOf q group (Reads reading) modes = AreReadsOf q group modes
+AreTriedOf q group (Reads access) modes = AreReadsOf q group modes
 AreTriedOf q group (Passes kept child) modes = HasBelow modes.plain 1
 AreTriedOf q group (Joins by left right) modes = AreJoinsTried q by left right modes
 AreTriedOf q group (Groups by child) modes = HasBelow modes.plain 1 × HasBelow modes.hashed (length (lists_of q))

@@ -4,7 +4,7 @@
 ghost use Rattle.std.specs.Prelude.{ℕ, ◌≡◌, slice_get, length};
 ghost use Rattle.request_props.specs.Numbered.{IsProps, side_of};
 ghost use Rattle.plan_space.specs.Lines.{line_of as line_by_table, table_line as line_of_table};
-ghost use Rattle.plan_space.specs.Lines.{way_line as line_by_way, order_read as order_by_reading};
+ghost use Rattle.plan_space.specs.Lines.{way_line as line_by_way, order_read as order_by_access};
 ghost use Rattle.plan_space.specs.Lines.{kept_line as line_kept, grouped_order as order_grouped};
 ghost use Rattle.plan_space.specs.Lines.{join_line as join_line_by_table};
 ghost use Rattle.plan_space.specs.Lines.{hash_line as hash_line_by_table, merge_line as merge_line_by_table};
@@ -12,12 +12,12 @@ ghost use Rattle.plan_space.specs.Lines.{loop_line as loop_line_by_table, agg_li
 ghost use Rattle.plan_space.specs.Lines.{hash_colocated as hash_line_with, merge_with as merge_line_with};
 ghost use Rattle.plan_space.specs.Lines.{only_line as only_by_table, single_line as single_by_table};
 ghost use Rattle.plan_space.specs.Lines.{merge_colocated as merge_line_hashed};
-ghost use Rattle.plan_space.specs.Lines.{table_in as table_of_group, on_one, on_hashed, in_order};
+ghost use Rattle.plan_space.specs.Lines.{on_one, on_hashed, in_order};
 ghost use Rattle.plan_space.specs.Lines.{is_replicated as has_copies, replica_dists, dists_of_table};
 
 use crate::ways::way_of;
-use plan_space::{GroupBy, JoinBy, Kept, LeftDist, LeftOrder, Line, Mode, Reading, Way};
-use query_core::{KeyParts, PhysicalExpr, Query};
+use plan_space::{GroupBy, JoinBy, Kept, LeftDist, LeftOrder, Line, Mode, Way};
+use query_core::{Access, KeyParts, PhysicalExpr, Query, table_in};
 use request_props::{Dist, GivenDist, GivenOrder, Props, Request, Side};
 
 /// The line of an expression in the mode of a number, if it has the mode.
@@ -40,7 +40,7 @@ fn line_by(query: &Query, props: &Props, group: KeyParts, way: Way, mode: Mode) 
     ensures { result ≡ line_by_way query.now group way mode }
 {
     match way {
-        Way::Reads(reading) => table_line(query, props, group, order_read(group, reading), mode),
+        Way::Reads(access) => table_line(query, props, group, order_read(group, access), mode),
         Way::Passes(kept, _) => single_line(kept_line(kept), mode),
         Way::Joins(by, left, right) => join_line(query, props, by, left, right, mode),
         Way::Groups(by, _) => agg_line(query, props, grouped_order(query, props, by), mode),
@@ -48,12 +48,12 @@ fn line_by(query: &Query, props: &Props, group: KeyParts, way: Way, mode: Mode) 
 }
 
 // In no order, or in that of the index of this number of the group's table.
-fn order_read(group: KeyParts, reading: Reading) -> GivenOrder
-    ensures { result ≡ order_by_reading group reading }
+fn order_read(group: KeyParts, access: Access) -> GivenOrder
+    ensures { result ≡ order_by_access group access }
 {
-    match reading {
-        Reading::InNoOrder => GivenOrder::Listed(0),
-        Reading::ByIndex(index) => GivenOrder::Index(table_in(group), index),
+    match access {
+        Access::Direct => GivenOrder::Listed(0),
+        Access::Index(index) => GivenOrder::Index(table_in(group), index),
     }
 }
 
@@ -94,19 +94,6 @@ fn grouped_order(query: &Query, props: &Props, by: GroupBy) -> u32
     match by {
         GroupBy::Hashing => 0,
         GroupBy::Ordered => props.group_order(query),
-    }
-}
-
-/// The table whose rows a group has.
-pub fn table_in(group: KeyParts) -> u32
-    ensures { result ≡ table_of_group group }
-{
-    match group {
-        KeyParts::Get(table) => table,
-        KeyParts::Filter(table) => table,
-        KeyParts::Join(_) => 0,
-        KeyParts::Partial => 0,
-        KeyParts::Agg => 0,
     }
 }
 

@@ -7,10 +7,10 @@ ghost use Rattle.request_props.specs.Numbered.{IsProps, lists_of};
 ghost use Rattle.plan_space.specs.Ways.{way_of as way_by_table};
 ghost use Rattle.plan_tree.specs.Walks.{AreJoinsTried, AreReadsOf, AreTriedOf, IsNextLine, IsNextTried};
 
-use crate::lines::{line_of, read_count, table_in};
+use crate::lines::{line_of, read_count};
 use crate::ways::way_of;
 use plan_space::{JoinBy, Line, MODES_END, ModeSets, Way, modes_are_few};
-use query_core::{KeyParts, PhysicalExpr, Query};
+use query_core::{KeyParts, PhysicalExpr, Query, table_in};
 use request_props::{NumberSet, Props};
 
 /// The first mode from this number on in which the expression works, with its line.
