@@ -163,20 +163,20 @@ shape_below fewer q group child (operators.Logical (logical.Partial x)) known sh
 shape_below fewer q group child (operators.Physical physical.Scan) known shape is = absurd is
 shape_below fewer q group child (operators.Physical (physical.IndexScan index)) known shape is = absurd is
 shape_below fewer q group child (operators.Physical (physical.Filter x)) known shape is =
-    subst (IsBelow group) (sym is) (filtered_below group x shape)
+    subst (IsBelow group) (sym is) (filtered_below group x shape.0)
 shape_below fewer q group child (operators.Physical (physical.IndexSeek index)) known shape is = absurd is
 shape_below fewer q group child (operators.Physical (physical.HashJoin left right)) known shape is =
-    of_two group left right child (sides_below fewer q group left right known shape) is
+    of_two group left right child (sides_below fewer q group left right known shape.0) is
 shape_below fewer q group child (operators.Physical (physical.MergeJoin left right)) known shape is =
-    of_two group left right child (sides_below fewer q group left right known shape) is
+    of_two group left right child (sides_below fewer q group left right known shape.0) is
 shape_below fewer q group child (operators.Physical (physical.LoopJoin left right)) known shape is =
-    of_two group left right child (sides_below fewer q group left right known shape) is
+    of_two group left right child (sides_below fewer q group left right known shape.0) is
 shape_below fewer q group child (operators.Physical (physical.HashAgg x)) known shape is =
-    subst (IsBelow group) (sym is) (aggregated_below q group x shape)
+    subst (IsBelow group) (sym is) (aggregated_below q group x shape.0)
 shape_below fewer q group child (operators.Physical (physical.StreamAgg x)) known shape is =
-    subst (IsBelow group) (sym is) (aggregated_below q group x shape)
+    subst (IsBelow group) (sym is) (aggregated_below q group x shape.0)
 shape_below fewer q group child (operators.Physical (physical.PartialAgg x)) known shape is =
-    subst (IsBelow group) (sym is) (partial_below q group x shape)
+    subst (IsBelow group) (sym is) (partial_below q group x shape.0)
 
 -- the groups on which a candidate stands are below its own
 pub child_below : FewerTables → (q : Query) (e : ExprParts) (child : KeyParts) → IsCandidate q e
