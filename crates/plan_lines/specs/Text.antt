@@ -1,6 +1,7 @@
 -- The lines in which a plan is printed.
 use Rattle.std.specs.Prelude.{ℕ, zero, suc, ◌==◌, List, [], ◌∷◌, ◌++◌, flat_map, Option, None, Some, codes, decimal}
 use Rattle.std.specs.Prelude.{if◌then◌else◌}
+use Rattle.query_core.specs.Expressions.{table_in}
 use Rattle.query_core.specs.declared.query.Query.{Query}
 use Rattle.query_core.specs.declared.output.OutItem.{OutItem}
 use Rattle.query_core.specs.declared.expressions.Physical.{Physical}
@@ -19,7 +20,7 @@ use Rattle.plan_space.specs.Nodes.{Tree, leaf, over, two}
 use Rattle.plan_space.specs.Modes.{mode_at}
 use Rattle.plan_space.specs.declared.modes.Mode.{Mode}
 use Rattle.plan_space.specs.declared.modes.Mode.TheVariants as modes
-use Rattle.plan_space.specs.Lines.{table_in, is_replicated}
+use Rattle.plan_space.specs.Lines.{is_replicated}
 use Rattle.plan_space.specs.declared.seen.Kid.{Kid}
 use Rattle.plan_space.specs.Gives.{node_group, kid_of}
 use Rattle.plan_space.specs.Cost.{shape_of, cost_of}

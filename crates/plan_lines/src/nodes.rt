@@ -6,8 +6,8 @@ ghost use Rattle.request_props.specs.Numbered.{IsProps};
 ghost use Rattle.plan_lines.specs.Text as texts;
 
 use plan_space::{Enforcer, Mode, NodeKind};
-use plan_tree::{is_replicated, table_in};
-use query_core::{Physical, PhysicalExpr, Query};
+use plan_tree::is_replicated;
+use query_core::{Physical, PhysicalExpr, Query, table_in};
 use query_text::{list_text, order_text, table_text};
 use request_props::Props;
 use std::alloc::{AllocError, Global};
