@@ -5,7 +5,7 @@ use Rattle.std.specs.Option.{IsSome, option_map}
 use Rattle.std.proofs.lemmas.Bool.{eqb-true, ltb-true}
 use Rattle.query_core.specs.Crossing.{crossing_of, crossing_at}
 use Rattle.query_core.specs.Keys.{IsGroup}
-use Rattle.query_core.specs.Expressions.{HasIndex}
+use Rattle.query_core.specs.Expressions.{table_in}
 use Rattle.query_core.specs.declared.predicate.Pred.{Pred}
 use Rattle.query_core.specs.declared.query.Query.{Query}
 use Rattle.query_core.specs.declared.words.KeyParts.{KeyParts}
@@ -17,7 +17,7 @@ use Rattle.plan_space.specs.Modes.{mode_at}
 use Rattle.request_props.specs.declared.given.GivenDist.{GivenDist}
 use Rattle.request_props.specs.declared.given.GivenOrder.{GivenOrder}
 use Rattle.request_props.specs.declared.given.GivenOrder.TheVariants.{Listed, Index}
-use Rattle.plan_space.specs.Lines.{only_line, single_line, hash_line, merge_line, loop_line, agg_line, table_in, in_order}
+use Rattle.plan_space.specs.Lines.{only_line, single_line, hash_line, merge_line, loop_line, agg_line, in_order}
 use Rattle.plan_space.specs.Lines.{dists_of_table, table_line}
 use Rattle.plan_space.specs.declared.lines.Line.TheVariants.{Above}
 use Rattle.plan_space.specs.declared.lines.LeftDist.TheVariants as left_dists
@@ -95,23 +95,17 @@ module _ (q : Query) where
   native_form : (g : KeyParts) (o : Physical) (m : ℕ) → IsNativeOf q (expr g o) m
       → HasForm q (named_operator o (table_in g) (mode_at m))
   native_form g physical.Scan m is =
-      let s = is.candidate.shape in
+      let s = is.candidate.shape.0 in
       let known : s.0 < length q.tables = subst (IsGroup q) s.1 is.candidate.known in
       (subst (λ t. t < length q.tables) (sym (ap table_in s.1)) known, read_form g (Listed 0) (mode_at m) is.has_line)
   native_form g (physical.IndexScan i) m is =
-      let s = is.candidate.shape in (
-        subst (λ t. HasIndex q t i) (sym (ap table_in s.1)) s.2,
-        read_form g (Index (table_in g) i) (mode_at m) is.has_line,
-      )
+      (is.candidate.shape.1, read_form g (Index (table_in g) i) (mode_at m) is.has_line)
   native_form g (physical.Filter c) m is =
-      let s = is.candidate.shape in
+      let s = is.candidate.shape.0 in
       let known : IsGroup q (groups.Filter s.0) = subst (IsGroup q) s.1 is.candidate.known in
       (subst (λ t. t < length q.tables) (sym (ap table_in s.1)) known.0, only_form _ (mode_at m) is.has_line)
   native_form g (physical.IndexSeek i) m is =
-      let s = is.candidate.shape in (
-        subst (λ t. HasIndex q t i) (sym (ap table_in s.1)) s.2,
-        read_form g (Index (table_in g) i) (mode_at m) is.has_line,
-      )
+      (is.candidate.shape.1, read_form g (Index (table_in g) i) (mode_at m) is.has_line)
   native_form g (physical.HashJoin l r) m is = hash_form l r (mode_at m) is.has_line
   native_form g (physical.MergeJoin l r) m is = merge_form l r (mode_at m) is.has_line
   native_form g (physical.LoopJoin l r) m is = loop_form (mode_at m) is.has_line

@@ -14,5 +14,5 @@ pub index_known : (q : Query) → ((e : ExprParts) → IsCandidate q e → IsPac
 index_known q packed t i has =
     let e : ExprParts = record { group = groups.Get t; operator = operators.Physical (physical.IndexScan i) } in
     let below = below_got q.tables t has.0 has.1 in
-    let is = packed e (record { known = below; shape = (t, refl, has) }) in
+    let is = packed e (record { known = below; shape = ((t, refl), has) }) in
     (below, is.index)

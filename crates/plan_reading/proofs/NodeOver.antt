@@ -3,7 +3,7 @@ use Rattle.std.proofs.Common.{◌≡◌, ℕ, ◌+◌, ◌-◌, List, [], ◌∷
 use Rattle.std.specs.Prelude.{bit_or}
 use Rattle.std.proofs.lemmas.Bool.{cases_lt}
 use Rattle.query_core.specs.Keys.{tables_of, top_of}
-use Rattle.query_core.specs.Expressions.{physical_children, IsJoin}
+use Rattle.query_core.specs.Expressions.{physical_children, table_in, IsJoin}
 use Rattle.query_core.specs.declared.query.Query.{Query}
 use Rattle.query_core.specs.declared.words.KeyParts.{KeyParts}
 use Rattle.query_core.specs.declared.words.KeyParts.TheVariants as groups
@@ -13,7 +13,6 @@ use Rattle.query_core.specs.declared.expressions.PhysicalExpr.{PhysicalExpr}
 use Rattle.plan_space.specs.Choices.{groups_of}
 use Rattle.plan_space.specs.Gives.{first_group}
 use Rattle.plan_space.specs.Laws.{AreOf}
-use Rattle.plan_space.specs.Lines.{table_in}
 use Rattle.plan_space.specs.Modes.{mode_at}
 use Rattle.plan_space.specs.declared.nodes.NodeKind.{NodeKind}
 use Rattle.plan_space.specs.declared.nodes.NodeKind.TheVariants as nodes
@@ -83,32 +82,32 @@ module _ (q : Query) (tables : (set : ℕ) → tables_of (top_of q set) ≡ set)
       → AreOf (groups_of (physical_children o)) kids
       → numbered g o m ≡ node_over (named_operator o (table_in g) (mode_at m)) kids
   native_over g physical.Scan m kids x of =
-      let s = x.candidate.shape in
+      let s = x.candidate.shape.0 in
       same_node g (groups.Get (table_in g)) physical.Scan physical.Scan m (s.1 ∙ ap groups.Get (sym (ap table_in s.1))) refl
   native_over g (physical.IndexScan i) m kids x of =
-      let s = x.candidate.shape in
+      let s = x.candidate.shape.0 in
       same_node g (groups.Get (table_in g)) (physical.IndexScan i) (physical.IndexScan i) m
       (s.1 ∙ ap groups.Get (sym (ap table_in s.1))) refl
   native_over g (physical.Filter c) m kids x of =
-      let s = x.candidate.shape in
+      let s = x.candidate.shape.0 in
       let t : s.0 ≡ table_in g = sym (ap table_in s.1) in
       same_node g (groups.Filter (table_in g)) (physical.Filter c) (physical.Filter (groups.Get (table_in g))) m
       (s.1 ∙ ap groups.Filter t) (ap physical.Filter (s.2 ∙ ap groups.Get t))
   native_over g (physical.IndexSeek i) m kids x of =
-      let s = x.candidate.shape in
+      let s = x.candidate.shape.0 in
       same_node g (groups.Filter (table_in g)) (physical.IndexSeek i) (physical.IndexSeek i) m
       (s.1 ∙ ap groups.Filter (sym (ap table_in s.1))) refl
-  native_over g (physical.HashJoin l r) m kids x of = join_over physical.HashJoin g l r m kids x.candidate.shape of
-  native_over g (physical.MergeJoin l r) m kids x of = join_over physical.MergeJoin g l r m kids x.candidate.shape of
-  native_over g (physical.LoopJoin l r) m kids x of = join_over physical.LoopJoin g l r m kids x.candidate.shape of
+  native_over g (physical.HashJoin l r) m kids x of = join_over physical.HashJoin g l r m kids x.candidate.shape.0 of
+  native_over g (physical.MergeJoin l r) m kids x of = join_over physical.MergeJoin g l r m kids x.candidate.shape.0 of
+  native_over g (physical.LoopJoin l r) m kids x of = join_over physical.LoopJoin g l r m kids x.candidate.shape.0 of
   native_over g (physical.HashAgg c) m kids x of =
-      same_node g groups.Agg (physical.HashAgg c) (physical.HashAgg (first_group kids)) m x.candidate.shape.0
+      same_node g groups.Agg (physical.HashAgg c) (physical.HashAgg (first_group kids)) m x.candidate.shape.0.0
       (ap physical.HashAgg (first_of c [] kids of))
   native_over g (physical.StreamAgg c) m kids x of =
-      same_node g groups.Agg (physical.StreamAgg c) (physical.StreamAgg (first_group kids)) m x.candidate.shape.0
+      same_node g groups.Agg (physical.StreamAgg c) (physical.StreamAgg (first_group kids)) m x.candidate.shape.0.0
       (ap physical.StreamAgg (first_of c [] kids of))
   native_over g (physical.PartialAgg c) m kids x of =
-      same_node g groups.Partial (physical.PartialAgg c) (physical.PartialAgg (first_group kids)) m x.candidate.shape.0
+      same_node g groups.Partial (physical.PartialAgg c) (physical.PartialAgg (first_group kids)) m x.candidate.shape.0.0
       (ap physical.PartialAgg (first_of c [] kids of))
 
   -- a node of the query over its kids is the one that its name and the kids' groups tell

@@ -8,7 +8,7 @@ use Rattle.cardinality.specs.Rows.{rows_of}
 use Rattle.cost_units.specs.Cost.{local_cost}
 use Rattle.plan_space.specs.Cost.{shape_of}
 use Rattle.plan_space.specs.Gives.{node_group, kid_of}
-use Rattle.plan_space.specs.Lines.{table_in}
+use Rattle.query_core.specs.Expressions.{table_in}
 use Rattle.plan_space.specs.Modes.{mode_at}
 use Rattle.plan_space.specs.Nodes.{Tree, leaf, over, two}
 use Rattle.plan_space.specs.declared.modes.Mode.{Mode}

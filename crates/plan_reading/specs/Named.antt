@@ -1,6 +1,6 @@
 -- Nodes as their lines name them, and those that a query can name.
 use Rattle.std.specs.Prelude.{ℕ, ◌≡◌, ◌<◌, List, ◌++◌, codes, length}
-use Rattle.query_core.specs.Expressions.{HasIndex}
+use Rattle.query_core.specs.Expressions.{table_in, HasIndex}
 use Rattle.query_core.specs.declared.query.Query.{Query}
 use Rattle.query_core.specs.declared.expressions.Physical.{Physical}
 use Rattle.query_core.specs.declared.expressions.Physical.TheVariants as physical
@@ -11,7 +11,7 @@ use Rattle.plan_space.specs.declared.modes.Mode.TheVariants as modes
 use Rattle.plan_space.specs.declared.nodes.NodeKind.{NodeKind}
 use Rattle.plan_space.specs.declared.nodes.NodeKind.TheVariants as nodes
 use Rattle.plan_space.specs.Modes.{mode_at}
-use Rattle.plan_space.specs.Lines.{table_in, dists_of_table}
+use Rattle.plan_space.specs.Lines.{dists_of_table}
 use Rattle.plan_check.specs.Nodes.{IsEnforcerOf}
 use Rattle.plan_lines.specs.Text.{hash_mode_text, merge_mode_text, loop_mode_text, agg_mode_text}
 use Rattle.plan_lines.specs.Text.{index_text, read_text, enforcer_text}

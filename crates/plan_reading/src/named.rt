@@ -10,8 +10,8 @@ ghost use Rattle.plan_reading.specs.Named.{HasLoopForm, HasAggForm};
 
 use plan_check::is_enforcer_of;
 use plan_space::{Enforcer, Mode, NodeKind};
-use plan_tree::{is_replicated, table_in};
-use query_core::{Physical, Query};
+use plan_tree::is_replicated;
+use query_core::{Physical, Query, table_in};
 use request_props::Props;
 
 /// A node as its line names it: an operator in a mode, with the table whose rows it makes, or an
