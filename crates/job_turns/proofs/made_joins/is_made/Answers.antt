@@ -15,7 +15,7 @@ returns-then-turns_joins c =
     let g = c.args.e.group in
     let l = c.in-MergeJoin.field-0 in
     let r = c.in-MergeJoin.field-1 in
-    let joins : IsJoin q g l r = subst (HasPhysical q g) c.in-MergeJoin.is c.requires.candidate.shape in
+    let joins : IsJoin q g l r = (subst (HasPhysical q g) c.in-MergeJoin.is c.requires.candidate.shape).0 in
     let mode = mode_at c.requires.has_mode.0 in
     let some : IsSome (merge_line q l r mode) =
     subst (λ (o : Physical). IsSome (operator_line q g o mode)) c.in-MergeJoin.is c.requires.has_mode.1 in
@@ -31,7 +31,7 @@ returns-then-turns_joins-2 c =
     let g = c.args.e.group in
     let l = c.in-LoopJoin.field-0 in
     let r = c.in-LoopJoin.field-1 in
-    let joins : IsJoin q g l r = subst (HasPhysical q g) c.in-LoopJoin.is c.requires.candidate.shape in
+    let joins : IsJoin q g l r = (subst (HasPhysical q g) c.in-LoopJoin.is c.requires.candidate.shape).0 in
     record {
       member = λ on. subst (λ (o : Physical). IsMember q (physical_in g o)) (sym c.in-LoopJoin.is)
           (loop_member q (c.splits_are_complete.ensures.splits q)
