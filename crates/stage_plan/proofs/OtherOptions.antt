@@ -3,7 +3,7 @@ use Rattle.std.proofs.Common.{◌≡◌, ℕ, List, slice_index_or}
 use Rattle.query_core.specs.Results.{AreOptions}
 use Rattle.query_core.specs.Keys.{IsKey, Names}
 use Rattle.query_core.specs.Expressions.{FallsInto, HasLogical, HasPhysical, HasShape, IsCandidate, IsCandidateOf, IsJoin}
-use Rattle.query_core.specs.Expressions.{expr_of}
+use Rattle.query_core.specs.Expressions.{expr_of, implements, access, HasAccess}
 use Rattle.query_core.specs.declared.query.Query.{Query}
 use Rattle.query_core.specs.declared.options.Options.{Options}
 use Rattle.query_core.specs.declared.words.Key.{Key}
@@ -12,7 +12,8 @@ use Rattle.query_core.specs.declared.expressions.ExprParts.{ExprParts}
 use Rattle.query_core.specs.declared.expressions.Logical.{Logical}
 use Rattle.query_core.specs.declared.expressions.Logical.TheVariants as logical
 use Rattle.query_core.specs.declared.expressions.Physical.{Physical}
-use Rattle.query_core.specs.declared.expressions.Physical.TheVariants as physical
+use Rattle.query_core.specs.declared.expressions.Access.{Access}
+use Rattle.query_core.specs.declared.expressions.Access.TheVariants.{Direct, Index}
 use Rattle.query_core.specs.declared.expressions.Operator.{Operator}
 use Rattle.query_core.specs.declared.expressions.Operator.TheVariants as operators
 use Rattle.request_props.specs.Groups.{AreGroupRows, AreKeys}
@@ -80,18 +81,15 @@ logical_with q o v group (logical.Join left right) h = join_with q o v group lef
 logical_with q o v group (logical.Agg child) h = h
 logical_with q o v group (logical.Partial child) h = h
 
+access_with : (q : Query) (o : Options) (v : AreOptions o) (group : KeyParts) (a : Access) → HasAccess q group a
+    → HasAccess (with q o v) group a
+access_with q o v group Direct h = h
+access_with q o v group (Index index) h = h
+
 physical_with : (q : Query) (o : Options) (v : AreOptions o) (group : KeyParts) (operator : Physical)
     → HasPhysical q group operator → HasPhysical (with q o v) group operator
-physical_with q o v group physical.Scan h = h
-physical_with q o v group (physical.IndexScan index) h = h
-physical_with q o v group (physical.Filter child) h = h
-physical_with q o v group (physical.IndexSeek index) h = h
-physical_with q o v group (physical.HashJoin left right) h = join_with q o v group left right h
-physical_with q o v group (physical.MergeJoin left right) h = join_with q o v group left right h
-physical_with q o v group (physical.LoopJoin left right) h = join_with q o v group left right h
-physical_with q o v group (physical.HashAgg child) h = h
-physical_with q o v group (physical.StreamAgg child) h = h
-physical_with q o v group (physical.PartialAgg child) h = h
+physical_with q o v group operator h =
+    (logical_with q o v group (implements group operator) h.0, access_with q o v group (access operator) h.1)
 
 shape_with : (q : Query) (o : Options) (v : AreOptions o) (group : KeyParts) (operator : Operator)
     → HasShape q group operator → HasShape (with q o v) group operator
