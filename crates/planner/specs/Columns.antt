@@ -10,7 +10,7 @@ use Rattle.query_core.specs.declared.expressions.PhysicalExpr.{PhysicalExpr}
 use Rattle.query_text.specs.Columns.{computed_text}
 use Rattle.request_props.specs.Numbered.{list_of, order_of}
 use Rattle.request_props.specs.Satisfied.{index_columns}
-use Rattle.plan_space.specs.Lines.{table_in}
+use Rattle.query_core.specs.Expressions.{table_in}
 use Rattle.plan_space.specs.declared.nodes.Enforcer.{Enforcer}
 use Rattle.plan_space.specs.declared.nodes.Enforcer.TheVariants as enforcers
 use Rattle.plan_space.specs.declared.nodes.NodeKind.{NodeKind}

@@ -15,10 +15,10 @@ pub use fault::PlanFault;
 pub use laws::{costs_add_up, nodes_tell_the_plan};
 pub use node::{LeastPlan, PlanColumn, PlanNode, Planned};
 pub use plan_space::{Enforcer, Mode, NodeKind};
-pub use plan_tree::table_in;
 pub use planning::{plan_select, plan_select_by_crew, plan_sql, plan_sql_by_crew};
 pub use query_core::{
     Catalog, ColumnInfo, Options, Physical, PhysicalExpr, Placing, Query, RootDist, TableInfo,
+    table_in,
 };
 pub use request_props::PropsFault;
 pub use settings::Settings;
