@@ -28,9 +28,9 @@ pub record AreKnown : Type 0 where
       → All (λ (worker : ℕ). worker < n) who
 
 -- what n workers finished, in the words of a run
-pub run_ends : (known : AreKnown) (q : Query) (room cap n : ℕ) (outcome : Outcome) (last : Option (ℕ × ℕ × ℕ))
-    → IsRun q room cap n outcome last → RunEnds q room n outcome
-run_ends known q room cap n (Done members goals answers who) last run =
+pub run_ends : (known : AreKnown) (q : Query) (cells capacity n : ℕ) (outcome : Outcome) (last : Option (ℕ × ℕ × ℕ))
+    → IsRun q cells capacity n outcome last → RunEnds q cells n outcome
+run_ends known q cells capacity n (Done members goals answers who) last run =
     let cell = (mem run.gives.its.closes.words).cell in
     let whole = run.gives.is.1 in
     record {
@@ -40,22 +40,21 @@ run_ends known q room cap n (Done members goals answers who) last run =
       one_each = known.each cell run.view.done goals who whole.finishers;
       below = known.below cell run.view.done goals who n whole.finishers run.done;
     }
-run_ends known q room cap n (Full cells) last run = record { capacity = run.gives.is.capacity; more = run.gives.is.more }
-run_ends known q room cap n (Unfinished goal) last run = absurd run.ended
+run_ends known q cells capacity n (Full told) last run =
+    record { same = run.gives.is.same; more = run.gives.is.more }
+run_ends known q cells capacity n (Unfinished goal) last run = absurd run.ended
 
 -- the note counts all goals where all are finished
-pub is_noted : (q : Query) (room cap n : ℕ) (outcome : Outcome) (last : Option (ℕ × ℕ × ℕ))
-    → IsRun q room cap n outcome last
-    → IsNoted cap n outcome last
-is_noted q room cap n (Done members goals answers who) last run = run.noted
-is_noted q room cap n (Full cells) last run = (length run.gives.closed.answers, run.noted)
-is_noted q room cap n (Unfinished goal) last run = absurd run.ended
+pub is_noted : (q : Query) (cells capacity n : ℕ) (outcome : Outcome) (last : Option (ℕ × ℕ × ℕ))
+    → IsRun q cells capacity n outcome last → IsNoted capacity n outcome last
+is_noted q cells capacity n (Done members goals answers who) last run = run.noted
+is_noted q cells capacity n (Full told) last run = (length run.gives.closed.answers, run.noted)
+is_noted q cells capacity n (Unfinished goal) last run = absurd run.ended
 
 -- a run that finished all goals on fewer cells is one of the whole capacity
-pub ends_within : (q : Query) (room cap n : ℕ) → room ≤ cap → (outcome : Outcome) → IsDoneCase outcome
-    → RunEnds q room n outcome
-    → RunEnds q cap n outcome
-ends_within q room cap n within (Done members goals answers who) done ends =
+pub ends_within : (q : Query) (cells capacity n : ℕ) → cells ≤ capacity → (outcome : Outcome) → IsDoneCase outcome
+    → RunEnds q cells n outcome → RunEnds q capacity n outcome
+ends_within q cells capacity n within (Done members goals answers who) done ends =
     let few = ends.fits.few in
     record {
       fits = record { closure = ends.fits.closure; all_goals = ends.fits.all_goals; few = omega (arith, few, within) };
@@ -64,26 +63,27 @@ ends_within q room cap n within (Done members goals answers who) done ends =
       one_each = ends.one_each;
       below = ends.below;
     }
-ends_within q room cap n within (Full cells) done ends = absurd done
-ends_within q room cap n within (Unfinished goal) done ends = absurd done
+ends_within q cells capacity n within (Full told) done ends = absurd done
+ends_within q cells capacity n within (Unfinished goal) done ends = absurd done
 
 module _ (e : Engine) (n : ℕ) (w : Worker Rules) (is_last : IsLast e n w) (closed : Closed) where
   -- the last worker of a crew closed the board of the query's search
-  pub last_closes : ClosesWith rules_mean e.scheduler.board.key.rules e.scheduler.board.key.room (hands w.seat) closed
-      → ClosesSearch (query_of e) e.room e.scheduler.root (hands w.seat) closed
+  pub last_closes : ClosesWith rules_mean e.scheduler.board.setup.rules e.scheduler.board.setup.capacity
+      (hands w.seat) closed
+      → ClosesSearch (query_of e) e.cells e.scheduler.root (hands w.seat) closed
   last_closes closes = closes_search e (hands w.seat) closed is_last.its.its.its.root_shown.stands closes
 
-  module _ (outcome : Outcome) (its : ClosesSearch (query_of e) e.room e.scheduler.root (hands w.seat) closed)
-      (is : IsOutcome (query_of e) e.room (mem its.closes.words).cell (hands w.seat).done closed outcome) where
+  module _ (outcome : Outcome) (its : ClosesSearch (query_of e) e.cells e.scheduler.root (hands w.seat) closed)
+      (is : IsOutcome (query_of e) e.cells (mem its.closes.words).cell (hands w.seat).done closed outcome) where
     -- no more goals were finished than there are cells
-    pub few_finished : finished_count closed outcome ≤ e.room
-    few_finished = finished_few (query_of e) e.room e.scheduler.root (hands w.seat) closed its outcome is
+    pub few_finished : finished_count closed outcome ≤ e.cells
+    few_finished = finished_few (query_of e) e.cells e.scheduler.root (hands w.seat) closed its outcome is
 
     -- it has seen the end, so this is what the run gave
     pub last_run : (ShowsClosed (hands w.seat).looks e.scheduler.root → IsDoneCase outcome)
         → (ShowsFull (hands w.seat).looks → IsFullCase outcome)
         → (finished : ℕ) → finished ≡ finished_count closed outcome
-        → IsRun (query_of e) e.room e.cap n outcome (Some (e.cap, n, finished))
+        → IsRun (query_of e) e.cells e.capacity n outcome (Some (e.capacity, n, finished))
     last_run if_done if_full finished counted = record {
       place = e.scheduler.root;
       view = hands w.seat;
@@ -91,5 +91,5 @@ module _ (e : Engine) (n : ℕ) (w : Worker Rules) (is_last : IsLast e n w) (clo
       ended = ⊎_elim (λ (t : ShowsClosed (hands w.seat).looks e.scheduler.root). done_ends outcome (if_done t))
           (λ (t : ShowsFull (hands w.seat).looks). full_ends outcome (if_full t)) is_last.ended;
       done = is_last.its.done;
-      noted = ap (λ (k : ℕ). Some (e.cap, n, k)) counted;
+      noted = ap (λ (k : ℕ). Some (e.capacity, n, k)) counted;
     }

@@ -31,69 +31,70 @@ use Rattle.job_outcome.proofs.Counting.{cells_all, fit_or_not}
 use Rattle.job_outcome.proofs.Reading.{ReadsSearch}
 use Rattle.job_outcome.proofs.Ending.{is_done}
 
-module _ (q : Query) (cap place : ℕ) (m : Mem) (done : List Ended) (closed : Closed)
-    (its : ReadsSearch q cap place m done closed) where
+module _ (q : Query) (capacity place : ℕ) (m : Mem) (done : List Ended) (closed : Closed)
+    (its : ReadsSearch q capacity place m done closed) where
   -- the entry that stands in no cell, and those that stand in all
-  more_entries : closed.full ≡ true → HasMoreEntries q cap
+  more_entries : closed.full ≡ true → HasMoreEntries q capacity
   more_entries full =
       let is_full = its.full full in
       let (word, enters, nowhere) = is_full.left_out in
-      let cells = cells_below m cap in
+      let cells = cells_below m capacity in
       record {
         entries = word ∷ cells;
-        enter = All-cons (IsEntry q) word cells enters (all_cells m (IsEntry q) cap its.searched.cells.enter);
+        enter = All-cons (IsEntry q) word cells enters (all_cells m (IsEntry q) capacity its.searched.cells.enter);
         differ = IsDistinct-cons nat_eq word cells
             (recursion_from_All (λ x. nat_eq word x ≡ false) cells
-            (all_cells m (λ x. nat_eq word x ≡ false) cap
+            (all_cells m (λ x. nat_eq word x ≡ false) capacity
             (λ p near taken. ne_eqb word (m.cell p) (λ same. nowhere p near (sym same)))))
-            (cells_differ m cap its.searched.cells.are_set cap (omega arith));
-        more = let all = cells_all m cap is_full.taken cap (omega arith) in omega (arith, all);
+            (cells_differ m capacity its.searched.cells.are_set capacity (omega arith));
+        more = let all = cells_all m capacity is_full.taken capacity (omega arith) in omega (arith, all);
       }
 
-  pub is_full : (HasFinishedRoot q closed → ⊥) → closed.full ≡ true → IsFullFor q cap closed cap
-  is_full open_root full = record { open_root = open_root; full = full; capacity = refl; more = more_entries full }
+  pub is_full : (HasFinishedRoot q closed → ⊥) → closed.full ≡ true → IsFullFor q capacity closed capacity
+  is_full open_root full = record { open_root = open_root; full = full; same = refl; more = more_entries full }
 
   -- the goal that is ready stands in a cell, so it is an entry
   pub is_unfinished : ((e : ExprParts) → IsMember q e → FitsExpr (word_of e)) → (HasFinishedRoot q closed → ⊥)
       → closed.full ≡ false → (goal : ℕ) → closed.ready ≡ Some goal
       → IsUnfinished q closed goal
-  is_unfinished small open_root some_room goal ready =
-      let (p, near, at, is_ready, first) = subst (IsFirstReady (meaning_of q) m cap) ready its.ready in
+  is_unfinished small open_root not_full goal ready =
+      let (p, near, at, is_ready, first) = subst (IsFirstReady (meaning_of q) m capacity) ready its.ready in
       record {
         open_root = open_root;
-        some_room = some_room;
+        not_full = not_full;
         is_ready = ready;
         is_goal = subst (IsGoalWord q) at (goal_entry q (m.cell p) small
             (its.searched.cells.enter p near is_ready.some_goal) (leb-true goal_bit (m.cell p) is_ready.is_goal));
       }
 
   -- entries that fit are not more than the cells
-  is_finished : HasFinishedRoot q closed → (members goals : List ℕ) → FitsIn q cap members goals → IsFinished q closed
+  is_finished : HasFinishedRoot q closed → (members goals : List ℕ) → FitsIn q capacity members goals
+      → IsFinished q closed
   is_finished has members goals fits = record {
     root = has;
-    some_room = false_from_ne_true closed.full (λ full. fit_or_not q cap members goals fits (more_entries full));
+    not_full = false_from_ne_true closed.full (λ full. fit_or_not q capacity members goals fits (more_entries full));
   }
 
   -- what was put in order is the outcome where the root's goal is finished
   pub done_outcome : HasFinishedRoot q closed → BestsFit q → GoalRequestsFit q → MembersAreAsked q
       → ((e : ExprParts) → IsMember q e → FitsExpr (word_of e))
-      → (outcome : Outcome) → Orders closed outcome → IsOutcome q cap m.cell done closed outcome
+      → (outcome : Outcome) → Orders closed outcome → IsOutcome q capacity m.cell done closed outcome
   done_outcome has fit requests asked small (Done members goals answers who) ordered =
-      let is = is_done q cap place m done closed its has fit requests asked small members goals answers.list who
+      let is = is_done q capacity place m done closed its has fit requests asked small members goals answers.list who
       ordered in
       (is_finished has members goals is.fits, is)
-  done_outcome has fit requests asked small (Full room) none = absurd none
+  done_outcome has fit requests asked small (Full told) none = absurd none
   done_outcome has fit requests asked small (Unfinished goal) none = absurd none
 
 -- a board that was full has no other outcome
-pub full_case : (q : Query) (cap : ℕ) (cell : ℕ → ℕ) (done : List Ended) (closed : Closed) → closed.full ≡ true
+pub full_case : (q : Query) (capacity : ℕ) (cell : ℕ → ℕ) (done : List Ended) (closed : Closed) → closed.full ≡ true
     → (outcome : Outcome)
-    → IsOutcome q cap cell done closed outcome → IsFullCase outcome
-full_case q cap cell done closed full (Done members goals answers who) is =
-    absurd (let no : false ≡ true = sym is.0.some_room ∙ full in cc)
-full_case q cap cell done closed full (Full room) is = tt
-full_case q cap cell done closed full (Unfinished goal) is =
-    absurd (let no : false ≡ true = sym is.some_room ∙ full in cc)
+    → IsOutcome q capacity cell done closed outcome → IsFullCase outcome
+full_case q capacity cell done closed full (Done members goals answers who) is =
+    absurd (let no : false ≡ true = sym is.0.not_full ∙ full in cc)
+full_case q capacity cell done closed full (Full told) is = tt
+full_case q capacity cell done closed full (Unfinished goal) is =
+    absurd (let no : false ≡ true = sym is.not_full ∙ full in cc)
 
 -- the root's goal was found among those that are finished
 pub has_root : (q : Query) (closed : Closed) (answers : List (ℕ × Answer)) (root : ℕ) → answers ≡ closed.answers

@@ -47,9 +47,9 @@ module _ (Tells : List ℕ → List ℕ → Type 0) (choices : Choices) (query :
       plan_searched made.status front (text_of made) (subst (λ s. IsPlanOf query s front) (sym same) plan) goes
 
 -- the ending of a search with too many entries
-pub full_ended : (Tells : List ℕ → List ℕ → Type 0) (choices : Choices) (query : Query) (note : Note) (room : ℕ)
-    (ending : Ending) → Exceeds query choices.capacity room → (count : ℕ) × (note ≡ noted choices count)
-    → EndsAs ending TooManyEntries (texts.too_many_entries room)
+pub full_ended : (Tells : List ℕ → List ℕ → Type 0) (choices : Choices) (query : Query) (note : Note) (told : ℕ)
+    (ending : Ending) → Exceeds query choices.capacity told → (count : ℕ) × (note ≡ noted choices count)
+    → EndsAs ending TooManyEntries (texts.too_many_entries told)
     → IsSearchEnd Tells choices query note ending.status (text_of ending)
-full_ended Tells choices query note room ending full (count, is) ends =
-    too_many ends.status full.more (ends.text ∙ ap texts.too_many_entries full.capacity) count is
+full_ended Tells choices query note told ending full (count, is) ends =
+    too_many ends.status full.more (ends.text ∙ ap texts.too_many_entries full.same) count is

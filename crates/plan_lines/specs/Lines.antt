@@ -1,8 +1,10 @@
 -- The lines of a plan's text as the program makes them, byte by byte.
-use Rattle.std.specs.Prelude.{ℕ, ◌≡◌, List, ◌++◌}
+use Rattle.std.specs.Prelude.{ℕ, ◌≡◌, List, ◌++◌, reverse}
 use Rattle.std.specs.List.{concat}
 use Rattle.query_core.specs.declared.query.Query.{Query}
 use Rattle.plan_space.specs.declared.nodes.NodeKind.{NodeKind}
+use Rattle.plan_space.specs.declared.seen.Kid.{Kid}
+use Rattle.plan_space.specs.Gives.{kid_of, kid_under}
 use Rattle.plan_space.specs.Nodes.{Tree}
 use Rattle.plan_tree.specs.Nodes.{IsNode}
 use Rattle.plan_tree.specs.Spells.{Spells}
@@ -23,13 +25,27 @@ IsKindLine q spaces kind below line =
 abbrev pub IsNodeLine : Query → List ℕ → Node → Below → List ℕ → Type 0
 IsNodeLine q spaces node below line = (kind : NodeKind) → IsNode node kind → IsKindLine q spaces kind below line
 
--- one line was added to the text, and it is the node's
+-- the bytes are the lines of whichever tree the plan is, where the groups are the query's
+abbrev pub IsLinesText : Query → Plan → List ℕ → Type 0
+IsLinesText q plan text = (tree : Tree) → Spells plan tree → HasGroups q tree → text ≡ concat (plan_lines q 0 tree)
+
+-- ---- how they are gathered, from the last byte on
+
+-- this is seen of the plan, where it is a tree
+abbrev pub IsSeenOf : Query → Plan → Kid → Type 0
+IsSeenOf q plan seen = (tree : Tree) → Spells plan tree → seen ≡ kid_of q tree
+
+-- this is seen of the node over these plans
+abbrev pub IsSeenOver : Query → Node → Below → Kid → Type 0
+IsSeenOver q node below seen = (kind : NodeKind) → IsNode node kind → seen ≡ kid_under q kind (kids_seen below)
+
+-- one line was added to the text, the last byte first, and it is the node's
 abbrev pub AddsNode : Query → List ℕ → Node → Below → List ℕ → List ℕ → Type 0
 AddsNode q spaces node below before after =
-    (line : List ℕ) × (after ≡ before ++ line) × IsNodeLine q spaces node below line
+    (line : List ℕ) × (after ≡ before ++ reverse line) × IsNodeLine q spaces node below line
 
--- the lines of whichever tree the plan is were added to the text, behind the spaces
+-- the lines of whichever tree the plan is were added to the text behind the spaces, the last byte first
 abbrev pub AddsPlan : Query → List ℕ → Plan → List ℕ → List ℕ → Type 0
 AddsPlan q spaces plan before after =
     (depth : ℕ) (tree : Tree) → spaces ≡ indent depth → Spells plan tree → HasGroups q tree
-    → after ≡ before ++ concat (plan_lines q depth tree)
+    → after ≡ before ++ reverse (concat (plan_lines q depth tree))

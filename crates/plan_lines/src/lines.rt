@@ -3,18 +3,21 @@
 
 ghost use Rattle.std.specs.Prelude.{◌≡◌, IfOk, OnOk, string_bytes};
 ghost use Rattle.request_props.specs.Numbered.{IsProps};
+ghost use Rattle.plan_space.specs.declared.nodes.NodeKind.{NodeKind as Kind};
+ghost use Rattle.plan_tree.specs.Nodes.{IsNode};
 ghost use Rattle.plan_lines.specs.Text as texts;
-ghost use Rattle.plan_lines.specs.Lines.{AddsPlan, AddsNode, IsNodeLine, IsKindLine};
+ghost use Rattle.plan_lines.specs.Lines.{AddsPlan, AddsNode, IsNodeLine, IsKindLine, IsSeenOf, IsSeenOver};
 
 use crate::nodes::node_text;
-use plan_space::NodeKind;
-use plan_tree::{Below, Node, Plan, cost_above_any, plan_seen, rows_above};
+use plan_space::{Enforcer, Kid, NodeKind};
+use plan_tree::{Below, Node, Plan, cost_above_any, rows_above, seen_above};
 use query_core::Query;
 use request_props::Props;
 use std::alloc::{AllocError, Global};
 
-/// Adds the lines of a plan, each with its newline: what the node is, its group's rows and its own cost.
-/// A node stands before those below it, with two more spaces in front of these.
+/// Adds the lines of a plan, each with its newline: what the node is, its group's rows and its own cost. They are added
+/// from the last byte to the first, since the line of a node says what is seen of the plans below it. A node's line
+/// stands before those below it, which have two more spaces in front. Tells what is seen of the plan.
 pub fn push_plan(
     alloc: Global,
     query: &Query,
@@ -22,34 +25,37 @@ pub fn push_plan(
     indent: &str,
     plan: &Plan,
     text: &mut Vec<u8>,
-) -> Result<(), AllocError>
+) -> Result<Kid, AllocError>
     requires { IsProps query.now props.now }
-    ensures { OnOk result
+    ensures seen { IfOk result (IsSeenOf query.now plan.now) }
+    ensures added { OnOk result
         (AddsPlan query.now indent.now plan.now text.old.items text.new.items) }
 {
     match plan {
         Plan::Leaf(node) => { push_node(alloc, query, props, indent, *node, Below::Nothing, text) }
         Plan::Over(node, kid) => {
-            let below = Below::One(plan_seen(query, props, kid));
-            push_node(alloc, query, props, indent, *node, below, text)?;
             let deeper = format!(in alloc; "{indent}  ")?;
-            push_plan(alloc, query, props, &deeper, kid, text)?;
-            Ok(())
+            let only = push_plan(alloc, query, props, &deeper, kid, text)?;
+            push_node(alloc, query, props, indent, *node, Below::One(only), text)
         }
         Plan::Two(node, left, right) => {
-            let below = Below::Two(
-                plan_seen(query, props, left),
-                plan_seen(query, props, right),
-            );
-            push_node(alloc, query, props, indent, *node, below, text)?;
             let deeper = format!(in alloc; "{indent}  ")?;
-            push_plan(alloc, query, props, &deeper, left, text)?;
-            push_plan(alloc, query, props, &deeper, right, text)?;
-            Ok(())
+            let second = push_plan(alloc, query, props, &deeper, right, text)?;
+            let first = push_plan(alloc, query, props, &deeper, left, text)?;
+            push_node(
+                alloc,
+                query,
+                props,
+                indent,
+                *node,
+                Below::Two(first, second),
+                text,
+            )
         }
     }
 }
 
+// Adds the line of a node, from its last byte to its first, and tells what is seen of a plan with this root.
 fn push_node(
     alloc: Global,
     query: &Query,
@@ -58,14 +64,27 @@ fn push_node(
     node: Node,
     below: Below,
     text: &mut Vec<u8>,
-) -> Result<(), AllocError>
+) -> Result<Kid, AllocError>
     requires { IsProps query.now props.now }
-    ensures { OnOk result
+    ensures seen { IfOk result (IsSeenOver query.now node below) }
+    ensures added { OnOk result
         (AddsNode query.now indent.now node below text.old.items text.new.items) }
 {
     let line = node_line(alloc, query, props, indent, node, below)?;
-    text.extend_from_slice(line.as_bytes())?;
-    Ok(())
+    let mut turned = line.as_bytes().to_vec(alloc)?;
+    turned.as_mut_slice().reverse();
+    text.extend_from_slice(turned.as_slice())?;
+    Ok(seen_above(query, props, kind_of(node), below))
+}
+
+// What the node does; a number that no node has counts as that of a gather.
+fn kind_of(node: Node) -> NodeKind
+    ensures { (kind : Kind) → IsNode node kind → result ≡ kind }
+{
+    match node.kind() {
+        Some(kind) => kind,
+        None => NodeKind::Enforcer(Enforcer::Gather),
+    }
 }
 
 // The line of a node; nothing for a number that no node has.

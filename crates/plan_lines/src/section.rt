@@ -6,6 +6,7 @@ ghost use Rattle.std.specs.List.{concat};
 ghost use Rattle.request_props.specs.Numbered.{IsProps};
 ghost use Rattle.plan_lines.specs.Text as texts;
 ghost use Rattle.plan_lines.specs.Found.{IsFoundText, IsLeastText};
+ghost use Rattle.plan_lines.specs.Lines.{IsLinesText};
 
 use crate::lines::push_plan;
 use plan_tree::{Found, Plan};
@@ -49,7 +50,24 @@ fn least_text(
 {
     members_are_candidates();
     let mut text = first_lines(alloc, query, cost)?;
+    let lines = lines_text(alloc, query, props, plan)?;
+    text.extend_from_slice(lines.as_slice())?;
+    Ok(text)
+}
+
+// The lines of the nodes.
+fn lines_text(
+    alloc: Global,
+    query: &Query,
+    props: &Props,
+    plan: &Plan,
+) -> Result<Vec<u8>, AllocError>
+    requires { IsProps query.now props.now }
+    ensures { IfOk result (λ text. IsLinesText query.now plan.now text.items) }
+{
+    let mut text = Vec::new(alloc);
     push_plan(alloc, query, props, "", plan, &mut text)?;
+    text.as_mut_slice().reverse();
     Ok(text)
 }
 

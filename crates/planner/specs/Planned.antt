@@ -45,7 +45,7 @@ pub record IsLeastOf (q : Query) (plan : LeastPlan) : Type 0 where
 abbrev pub IsPlannedQuery : Query → ℕ → Planned → Type 0
 IsPlannedQuery q capacity (Least plan) = HasRoom q capacity × IsLeastOf q plan
 IsPlannedQuery q capacity NoPlan = HasRoom q capacity × QueryHasNoPlan q
-IsPlannedQuery q capacity (TooManyEntries room) = Exceeds q capacity room
+IsPlannedQuery q capacity (TooManyEntries told) = Exceeds q capacity told
 
 -- ---- selects
 

@@ -1,36 +1,38 @@
--- The line of the plan's root comes before those of the plans below it, the left ones before the right ones.
+-- The line of the plan's root comes behind those of the plans below it, the right ones first.
 use Rattle.std.proofs.Common.{◌≡◌, ◌++◌, rules}
 use Rattle.std.specs.Prelude.{codes}
-use Rattle.plan_lines.specs.Lines.{AddsPlan}
-use Rattle.plan_lines.proofs.Following.{IsSeenOf, over_follows, two_follows}
+use Rattle.plan_lines.specs.Lines.{AddsPlan, IsSeenOf}
+use Rattle.plan_lines.proofs.Following.{on_ok, over_follows, two_follows}
 use Rattle.plan_lines.proofs.lines.+push_plan.Goals as goal
 
 -- the root stands over one plan
-pub returns-in_ok-push_plan-in-Over : goal.returns-in_ok-push_plan-in-Over
-returns-in_ok-push_plan-in-Over t c =
+pub returns-in_ok-only-in-Over-clause-added : goal.returns-in_ok-only-in-Over-clause-added
+returns-in_ok-only-in-Over-clause-added t c =
     let q = c.args.query.now in
     let kid = c.in-Over.kid.value in
-    let deeper = c.deref-in-Over.result.now in
+    let deeper = c.deref.result.now in
     let deepens : deeper ≡ c.args.indent.now ++ codes "  " = search rules in
-    let seen : IsSeenOf q kid c.plan_seen.result = search rules in
-    let next : AddsPlan q deeper kid c.push_node-in-Over.new.text.items c.push_plan.new.text.items = search rules in
-    over_follows q c.args.indent.now deeper deepens c.args.plan.now c.in-Over.node _ kid c.plan_seen.result _ _ _
-    c.in-Over.is seen
-    c.in_ok-push_node-in-Over.ensures next
+    let seen : IsSeenOf q kid c.in_ok-only-in-Over.only = search rules in
+    let first : AddsPlan q deeper kid c.args.text.now.items c.push_plan.new.text.items = search rules in
+    on_ok c.push_node-in-Over.result _ _
+    (over_follows q c.args.indent.now deeper deepens c.args.plan.now c.in-Over.node _ kid c.in_ok-only-in-Over.only
+    _ _ _ c.in-Over.is seen first)
+    c.push_node-in-Over.ensures.added
 
 -- the root stands over two plans
-pub returns-in_ok-push_plan-in-Two-2 : goal.returns-in_ok-push_plan-in-Two-2
-returns-in_ok-push_plan-in-Two-2 t c =
+pub returns-in_ok-first-in-Two-clause-added : goal.returns-in_ok-first-in-Two-clause-added
+returns-in_ok-first-in-Two-clause-added t c =
     let q = c.args.query.now in
     let left = c.in-Two.left.value in
     let right = c.in-Two.right.value in
-    let deeper = c.deref-in-Two-3.result.now in
+    let deeper = c.deref-in-Two.result.now in
     let deepens : deeper ≡ c.args.indent.now ++ codes "  " = search rules in
-    let first : IsSeenOf q left c.plan_seen-in-Two.result = search rules in
-    let second : IsSeenOf q right c.plan_seen-in-Two-2.result = search rules in
     let halfway = c.push_plan-in-Two.new.text.items in
-    let next : AddsPlan q deeper left c.push_node-in-Two.new.text.items halfway = search rules in
-    let last : AddsPlan q deeper right halfway c.push_plan-in-Two-2.new.text.items = search rules in
-    two_follows q c.args.indent.now deeper deepens c.args.plan.now c.in-Two.node _ left _ right
-    c.plan_seen-in-Two.result c.plan_seen-in-Two-2.result
-    _ _ _ _ c.in-Two.is first second c.in_ok-push_node-in-Two.ensures next last
+    let first : IsSeenOf q left c.in_ok-first-in-Two.first = search rules in
+    let second : IsSeenOf q right c.in_ok-second-in-Two.second = search rules in
+    let last : AddsPlan q deeper right c.args.text.now.items halfway = search rules in
+    let next : AddsPlan q deeper left halfway c.push_plan-in-Two-2.new.text.items = search rules in
+    on_ok c.push_node-in-Two.result _ _
+    (two_follows q c.args.indent.now deeper deepens c.args.plan.now c.in-Two.node _ left _ right
+    c.in_ok-first-in-Two.first c.in_ok-second-in-Two.second _ _ _ _ c.in-Two.is first second last next)
+    c.push_node-in-Two.ensures.added

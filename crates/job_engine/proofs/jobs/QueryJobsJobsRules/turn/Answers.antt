@@ -13,22 +13,21 @@ use Rattle.job_engine.proofs.jobs.QueryJobsJobsRules.turn.Goals as goal
 pub returns-clause-turns : goal.returns-clause-turns
 returns-clause-turns c =
     let q = c.self.inside.rules.query.now in
-    let room = c.args.board.now.key.room in
+    let cells = c.args.board.now.setup.capacity in
     let v = hands c.args.seat.now in
     let right = c.args.right in
     let w = hands c.turn.new.seat in
     let t = c.turn.ensures.turns in
-    subst (λ (r : Rules). Turns room (AddsOf r.query.now right.goal) v right c.args.worker c.turn.result w)
+    subst (λ (r : Rules). Turns cells (AddsOf r.query.now right.goal) v right c.args.worker c.turn.result w)
     c.self.view_is
-    (turns_wider (Adds q t.goal) (AddsOf q right.goal) (λ word adds. (t.goal, t.names, adds)) room v right c.args.worker
-    c.turn.result w t.turns)
+    (turns_wider (Adds q t.goal) (AddsOf q right.goal) (λ word adds. (t.goal, t.names, adds)) cells v right
+    c.args.worker c.turn.result w t.turns)
 
 pub returns-clause-alone : goal.returns-clause-alone
 returns-clause-alone c =
     let q = c.self.inside.rules.query.now in
-    let key = c.args.board.now.key in
+    let setup = c.args.board.now.setup in
     let t = c.turn.ensures.turns in
-    turns_alone (meaning_of key.rules.query.now) key.room (Adds q t.goal) (hands c.args.seat.now) c.args.right
-    c.args.worker
-    c.requires.right.near c.requires.fresh c.requires.seat.over.all (adds_some q t.goal) c.turn.result
+    turns_alone (meaning_of setup.rules.query.now) setup.capacity (Adds q t.goal) (hands c.args.seat.now) c.args.right
+    c.args.worker c.requires.right.near c.requires.fresh c.requires.seat.over.all (adds_some q t.goal) c.turn.result
     (hands c.turn.new.seat) t.turns
