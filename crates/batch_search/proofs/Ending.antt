@@ -21,14 +21,15 @@ props_here queries props item q p h near =
     (slice_get-get_or props item p (subst (λ n. item < n) (sym h.as_many) near))
 
 -- what was searched there is what the item gives
-pub ends_here : {E : Type 0} (queries : List Query) (cap item : ℕ) (v : List Query × ℕ) (q : Query) (r : Result Outcome E)
-    → v ≡ (queries, cap) → item < length queries → IfOk r (RunEnds (slice_index_or queries item q) cap 1)
+pub ends_here : {E : Type 0} (queries : List Query) (capacity item : ℕ) (v : List Query × ℕ) (q : Query)
+    (r : Result Outcome E)
+    → v ≡ (queries, capacity) → item < length queries → IfOk r (RunEnds (slice_index_or queries item q) capacity 1)
     → IfOk r (λ outcome. EndsItem v.0 v.1 item outcome)
-ends_here queries cap item v q r is near =
-    subst (λ (y : List Query × ℕ). IfOk r (RunEnds (slice_index_or queries item q) cap 1)
+ends_here queries capacity item v q r is near =
+    subst (λ (y : List Query × ℕ). IfOk r (RunEnds (slice_index_or queries item q) capacity 1)
     → IfOk r (λ outcome. EndsItem y.0 y.1 item outcome)) (sym is)
-    (if_ok_as (RunEnds (slice_index_or queries item q) cap 1) (λ outcome. EndsItem queries cap item outcome)
+    (if_ok_as (RunEnds (slice_index_or queries item q) capacity 1) (λ outcome. EndsItem queries capacity item outcome)
     (λ outcome ends query at.
     let here = slice_get-get_or queries item q near in
     let same : slice_index_or queries item q ≡ query = cc in
-    subst (λ k. RunEnds k cap 1 outcome) same ends) r)
+    subst (λ k. RunEnds k capacity 1 outcome) same ends) r)

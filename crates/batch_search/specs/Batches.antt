@@ -14,13 +14,14 @@ pub record AreProps (queries : List Query) (props : List Props) : Type 0 where
       → IsProps query own
 
 -- the search of the query at this place, by one worker alone, ends so
-abbrev pub EndsItem : List Query → (cap item : ℕ) → Outcome → Type 0
-EndsItem queries cap item outcome = (query : Query) → slice_get queries item ≡ Some query → RunEnds query cap 1 outcome
+abbrev pub EndsItem : List Query → (capacity item : ℕ) → Outcome → Type 0
+EndsItem queries capacity item outcome = (query : Query) → slice_get queries item ≡ Some query
+    → RunEnds query capacity 1 outcome
 
 -- each outcome is one with which the search of its query by one worker alone ends, and each query has the number of one
 -- of the workers
-pub record EndsBatch (queries : List Query) (cap workers : ℕ) (run : BatchRun) : Type 0 where
+pub record EndsBatch (queries : List Query) (capacity workers : ℕ) (run : BatchRun) : Type 0 where
   pub as_many : length run.outcomes ≡ length queries
-  pub ends : (i : ℕ) (outcome : Outcome) → slice_get run.outcomes i ≡ Some outcome → EndsItem queries cap i outcome
+  pub ends : (i : ℕ) (outcome : Outcome) → slice_get run.outcomes i ≡ Some outcome → EndsItem queries capacity i outcome
   pub one_each : length run.taken ≡ length queries
   pub below : All (λ worker. worker < workers) run.taken

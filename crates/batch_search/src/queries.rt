@@ -11,7 +11,7 @@ use std::marker::Model;
 pub(crate) struct QueryBatch<'q> {
     pub queries: &'q [Query],
     pub props: &'q [Props],
-    pub cap: u32,
+    pub capacity: u32,
 }
 
 impl<'q> Model for QueryBatch<'q> {
@@ -22,10 +22,10 @@ impl<'q> Model for QueryBatch<'q> {
 
     ghost Value = { Listed Query × ℕ };
 
-    ghost view = { λ b. (b.queries.now, b.cap) };
+    ghost view = { λ b. (b.queries.now, b.capacity) };
 
     ghost invariant = { λ b. (length b.queries.now ≤ 1000) × AreProps b.queries.now b.props.now
-        × (1 ≤ b.cap) × (b.cap ≤ 2 ^ 20) };
+        × (1 ≤ b.capacity) × (b.capacity ≤ 2 ^ 20) };
 }
 
 impl<'q> Batch for QueryBatch<'q> {
@@ -49,7 +49,7 @@ impl<'q> Batch for QueryBatch<'q> {
             alloc,
             &self.queries[at],
             &self.props[at],
-            self.cap,
+            self.capacity,
             &mut note,
         )
     }

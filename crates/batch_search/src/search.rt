@@ -20,31 +20,31 @@ pub struct BatchRun {
     pub taken: List<u32>,
 }
 
-/// Searches each query by itself, on a board of at most `cap` cells, by one of the workers. These take queries while
+/// Searches each query by itself, on a board of at most `capacity` cells, by one of the workers. These take queries while
 /// there are any, each in a thread of its own, and pass the gate before each. It may wait.
 pub fn run_batch<R: Threads + Wait + Sync, G: Gate>(
     rt: &R,
     alloc: Global,
     queries: &[Query],
     props: &[Props],
-    cap: u32,
+    capacity: u32,
     workers: u32,
     gate: &G,
 ) -> Result<BatchRun, AllocError>
     requires few { length queries.now ≤ 1000 }
     requires props { AreProps queries.now props.now }
-    requires capacity { (1 ≤ cap) × (cap ≤ 2 ^ 20) }
+    requires capacity { (1 ≤ capacity) × (capacity ≤ 2 ^ 20) }
     requires workers { (1 ≤ workers) × (workers ≤ 64) }
 
     // How many cells the boards of all workers have at once, and all outcomes together.
-    requires boards { workers * cap ≤ 8388608 }
-    requires entries { length queries.now * cap ≤ 67108864 }
-    ensures { IfOk result (EndsBatch queries.now cap workers) }
+    requires boards { workers * capacity ≤ 8388608 }
+    requires entries { length queries.now * capacity ≤ 67108864 }
+    ensures { IfOk result (EndsBatch queries.now capacity workers) }
 {
     let batch = QueryBatch {
         queries,
         props,
-        cap,
+        capacity,
     };
     let run = run_all(rt, alloc, &batch, workers, gate)?;
     Ok(BatchRun {

@@ -50,7 +50,7 @@ fn found_alike(one: &Outcome, other: &Outcome) -> bool {
                 && goals.as_slice() == same_goals.as_slice()
                 && answers.list.as_slice() == same_answers.list.as_slice()
         }
-        (Outcome::Full { cap }, Outcome::Full { cap: same }) => cap == same,
+        (Outcome::Full { capacity }, Outcome::Full { capacity: same }) => capacity == same,
         _ => false,
     }
 }

@@ -32,14 +32,14 @@ module _ {R : Type 0} where
   moves_looks place v w t = moves_seen place v w t.more t.looks t.hands_are
 
   -- a word was put into a cell
-  pub moves_fresh : (place room : ℕ) (v : Hands R) (word at : ℕ) (w : Hands R) → PutsFresh room v word at w
+  pub moves_fresh : (place capacity : ℕ) (v : Hands R) (word at : ℕ) (w : Hands R) → PutsFresh capacity v word at w
       → Moves place v (word ∷ []) 0 w
-  moves_fresh place room v word at w t =
+  moves_fresh place capacity v word at w t =
       let put : Hands R = placed (seen t.more v) at word in
       record {
         words = put.alone;
         more = (cell_word at, word) ∷ ((cell_word at, 0) ∷ t.more);
-        kept = λ some. goes_fresh place room v word at w t some.0;
+        kept = λ some. goes_fresh place capacity v word at w t some.0;
         quiet = λ value saw. ⊎_elim (λ (e : (cell_word at ≡ full_word) × (word ≡ value)). let bad : ⊥ =
             omega (arith, e.0) in bad) (λ saw_before. t.looks.quiet value saw_before) saw;
         hands_are = t.hands_are ∙ ap (λ (rights : List Claimed). let h : Hands R = record put { rights = rights } in h)
@@ -47,23 +47,23 @@ module _ {R : Type 0} where
       }
 
   -- a wait was registered, or the child was found finished
-  pub moves_registered : (room : ℕ) (v : Hands R) (place at : ℕ) (w : Hands R) → Registers room v place at w
+  pub moves_registered : (capacity : ℕ) (v : Hands R) (place at : ℕ) (w : Hands R) → Registers capacity v place at w
       → Moves place v [] 1 w
-  moves_registered room v place at w t = record {
+  moves_registered capacity v place at w t = record {
     words = t.words;
     more = t.more;
     quiet = t.looks.quiet;
-    kept = λ some. goes_registered v place at room w t;
+    kept = λ some. goes_registered v place at capacity w t;
     hands_are = t.hands_are;
   }
 
-  pub moves_finished : (room : ℕ) (v : Hands R) (place at : ℕ) (w : Hands R) → FindsFinished room v place at w
+  pub moves_finished : (capacity : ℕ) (v : Hands R) (place at : ℕ) (w : Hands R) → FindsFinished capacity v place at w
       → Moves place v [] 0 w
-  moves_finished room v place at w t = record {
+  moves_finished capacity v place at w t = record {
     words = t.words;
     more = t.more;
     quiet = t.looks.quiet;
-    kept = λ some. goes_finished v place at room w t;
+    kept = λ some. goes_finished v place at capacity w t;
     hands_are = t.hands_are ∙ ap (λ (rights : List Claimed). let h : Hands R =
         record v { alone = t.words; looks = t.more ++ v.looks; rights = rights } in h)
         (sym (waits_none place v.rights));

@@ -58,38 +58,39 @@ module _ (kept : List ℕ) (at x : ℕ) where
   run_kept : (p : ℕ) → p ≢ at → run_set.run p ≡ (mem kept).run p
   run_kept p apart = get_or-set_other kept (run_word at) (run_word p) x 0 (λ e. apart (omega arith))
 
-  run_here : (room : ℕ) → at < room → length kept ≡ 14 * room + 1 → run_set.run at ≡ x
-  run_here room near long = get_or-set_same kept (run_word at) x 0 (omega arith)
+  run_here : (capacity : ℕ) → at < capacity → length kept ≡ 14 * capacity + 1 → run_set.run at ≡ x
+  run_here capacity near long = get_or-set_same kept (run_word at) x 0 (omega arith)
 
 -- a goal that was ready was claimed: one is ready less, and no more has changed
-pub record CountsClaim (meaning : Meaning) (room : ℕ) (before after : List ℕ) : Type 0 where
-  pub fewer_ready : ready_count meaning room after + 1 ≡ ready_count meaning room before
-  pub same_empty : empty_count room after ≡ empty_count room before
-  pub same_open : open_count room after ≡ open_count room before
+pub record CountsClaim (meaning : Meaning) (capacity : ℕ) (before after : List ℕ) : Type 0 where
+  pub fewer_ready : ready_count meaning capacity after + 1 ≡ ready_count meaning capacity before
+  pub same_empty : empty_count capacity after ≡ empty_count capacity before
+  pub same_open : open_count capacity after ≡ open_count capacity before
 
-pub claim_counts : (meaning : Meaning) (room at : ℕ) (kept : List ℕ) → at < room → length kept ≡ 14 * room + 1
+pub claim_counts : (meaning : Meaning) (capacity at : ℕ) (kept : List ℕ) → at < capacity
+    → length kept ≡ 14 * capacity + 1
     → (mem kept).cell at ≢ 0 → meaning.goal ((mem kept).cell at) ≡ true → (mem kept).run at ≡ 0
-    → CountsClaim meaning room kept (slice_set kept (run_word at) 256)
-claim_counts meaning room at kept near long some_goal is_goal is_ready =
+    → CountsClaim meaning capacity kept (slice_set kept (run_word at) 256)
+claim_counts meaning capacity at kept near long some_goal is_goal is_ready =
     let m : Mem = mem kept in
     let after : Mem = run_set kept at 256 in
     let was : has_ready meaning m at ≡ true =
     ap (λ b. (not b && meaning.goal (m.cell at)) && (m.run at == 0)) (ne_eqb (m.cell at) 0 some_goal)
     ∙ (ap (λ b. b && (m.run at == 0)) is_goal ∙ eq-eqb (m.run at) 0 is_ready) in
     let busy : (after.run at == 0) ≡ false =
-    ne_eqb (after.run at) 0 (λ e. let here = run_here kept at 256 room near long in omega arith) in
+    ne_eqb (after.run at) 0 (λ e. let here = run_here kept at 256 capacity near long in omega arith) in
     let now : has_ready meaning after at ≡ false =
     and_right (not (after.cell at == 0) && meaning.goal (after.cell at)) (after.run at == 0) busy in
-    let others : (k : ℕ) → k < room → k ≢ at → has_ready meaning after k ≡ has_ready meaning m k =
+    let others : (k : ℕ) → k < capacity → k ≢ at → has_ready meaning after k ≡ has_ready meaning m k =
     λ k below apart. ap (λ (t : ℕ × ℕ). (not (t.0 == 0) && meaning.goal t.0) && (t.1 == 0))
     (λ i. (cell_kept kept at 256 k i, run_kept kept at 256 k apart i)) in
-    let one = one_changed (has_ready meaning m) (has_ready meaning after) room at near others in
+    let one = one_changed (has_ready meaning m) (has_ready meaning after) capacity at near others in
     let p_here : one_if (has_ready meaning m at) ≡ 1 = ap one_if was in
     let q_here : one_if (has_ready meaning after at) ≡ 0 = ap one_if now in
     record {
       fewer_ready = omega (arith, one, p_here, q_here);
-      same_empty = number_same (has_empty m) (has_empty after) room
+      same_empty = number_same (has_empty m) (has_empty after) capacity
           (λ k below. ap (λ c. c == 0) (cell_kept kept at 256 k));
-      same_open = number_same (has_open m) (has_open after) room
+      same_open = number_same (has_open m) (has_open after) capacity
           (λ k below. ap (λ h. not (nat_le (2 ^ 63) h)) (head_kept kept at 256 k));
     }

@@ -9,30 +9,31 @@ use Rattle.board_moves.specs.declared.progress.Progress.TheVariants as progress
 use Rattle.board_moves.specs.declared.progress.Turned.{Turned}
 use Rattle.board_moves.specs.Turns.{IsReady, GivesUp, EndsTurn, Works, Turns}
 
-module _ {R : Type 0} (meaning : Meaning) (room : ℕ) (Adds : ℕ → Type 0) (v : Hands R) (before : Right) where
+module _ {R : Type 0} (meaning : Meaning) (capacity : ℕ) (Adds : ℕ → Type 0) (v : Hands R) (before : Right) where
   -- a goal that is complete may be finished
-  pub ready_after : (came : Progress) (w : Hands R) (after : Right) → Works meaning room Adds v before came w after
-      → IsReady meaning room w.looks after came
+  pub ready_after : (came : Progress) (w : Hands R) (after : Right) → Works meaning capacity Adds v before came w after
+      → IsReady meaning capacity w.looks after came
   ready_after (progress.Complete answer) w after works = works.1
   ready_after progress.Waiting w after works = tt
   ready_after progress.Full w after works = tt
 
   -- the work, and then the end
   pub turns_end : (worker : ℕ) (came : Progress) (u : Hands R) (after : Right) (turned : Turned) (w : Hands R)
-      → Works meaning room Adds v before came u after → EndsTurn room u after.place worker came turned w
-      → Turns room Adds v before worker turned w
+      → Works meaning capacity Adds v before came u after → EndsTurn capacity u after.place worker came turned w
+      → Turns capacity Adds v before worker turned w
   turns_end worker (progress.Complete answer) u after turned w works ends =
-      subst (λ t. Turns room Adds v before worker t w) (sym ends.1) (record {
+      subst (λ t. Turns capacity Adds v before worker t w) (sym ends.1) (record {
         middle = u;
         after = after;
         proceeds = works.0;
         cost = answer.cost;
         node = answer.node;
-        finishes = subst (λ place. FinishesGoal room u place worker answer.cost answer.node ends.0 w) works.0.same_place
+        finishes = subst (λ place. FinishesGoal capacity u place worker answer.cost answer.node ends.0 w)
+            works.0.same_place
             ends.2;
       })
   turns_end worker progress.Waiting u after turned w works ends =
-      subst (λ t. Turns room Adds v before worker t w) (sym ends.0)
+      subst (λ t. Turns capacity Adds v before worker t w) (sym ends.0)
       (record {
         middle = u;
         after = after;
@@ -41,7 +42,7 @@ module _ {R : Type 0} (meaning : Meaning) (room : ℕ) (Adds : ℕ → Type 0) (
         gives_up = subst (λ place. GivesUp u place w) works.0.same_place ends.1;
       })
   turns_end worker progress.Full u after turned w works ends =
-      subst (λ t. Turns room Adds v before worker t w) (sym ends.0)
+      subst (λ t. Turns capacity Adds v before worker t w) (sym ends.0)
       (record {
         middle = u;
         after = after;

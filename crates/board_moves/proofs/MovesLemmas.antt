@@ -1,4 +1,4 @@
--- How a turn proceeds by the moves of several calls, and how it runs out of room.
+-- How a turn proceeds by the moves of several calls, and how it finds the board full.
 use Rattle.std.proofs.Common.{ℕ, ◌+◌, List, [], ◌++◌, ◌∙◌, refl, sym, ap, subst, arith}
 use Rattle.board_rule.specs.Records.{Claimed}
 use Rattle.board_rule.specs.Seats.{Each}
@@ -63,10 +63,10 @@ module _ {R : Type 0} (Adds : ℕ → Type 0) where
       → Later v.looks w.looks
   later_proceeded v before w after t = later_moved before.place v t.puts t.waits w t.moves
 
-  pub runs_out_then : (room : ℕ) (v : Hands R) (before : Right) (u : Hands R) (middle : Right) (w : Hands R)
-      (after : Right) → Proceeds Adds v before u middle → RunsOut Adds u middle room w after
-      → RunsOut Adds v before room w after
-  runs_out_then room v before u middle w after a b = record {
+  pub runs_out_then : (capacity : ℕ) (v : Hands R) (before : Right) (u : Hands R) (middle : Right) (w : Hands R)
+      (after : Right) → Proceeds Adds v before u middle → RunsOut Adds u middle capacity w after
+      → RunsOut Adds v before capacity w after
+  runs_out_then capacity v before u middle w after a b = record {
     middle = b.middle;
     proceeds = proceeds_then v before u middle b.middle after a b.proceeds;
     word = b.word;
@@ -89,9 +89,9 @@ proceeds_wider Adds Wider wider v before w after t = record {
 }
 
 pub runs_out_wider : {R : Type 0} → (Adds Wider : ℕ → Type 0) → ((word : ℕ) → Adds word → Wider word)
-    → (room : ℕ) (v : Hands R) (before : Right) (w : Hands R) (after : Right)
-    → RunsOut Adds v before room w after → RunsOut Wider v before room w after
-runs_out_wider Adds Wider wider room v before w after t = record {
+    → (capacity : ℕ) (v : Hands R) (before : Right) (w : Hands R) (after : Right)
+    → RunsOut Adds v before capacity w after → RunsOut Wider v before capacity w after
+runs_out_wider Adds Wider wider capacity v before w after t = record {
   middle = t.middle;
   proceeds = proceeds_wider Adds Wider wider v before t.middle after t.proceeds;
   word = t.word;

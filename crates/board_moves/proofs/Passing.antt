@@ -63,7 +63,7 @@ module _ (Has : ℕ → Type 0) (before : Option ℕ) (found : List ℕ) (number
       let short = falls_short word found t.falls (λ other at. some other (t.below other at).0) in
       let same = t.number_is in omega arith
 
-module _ {R : Type 0} (meaning : Meaning) (room : ℕ) (Has : ℕ → Type 0) (v : Hands R) where
+module _ {R : Type 0} (meaning : Meaning) (capacity : ℕ) (Has : ℕ → Type 0) (v : Hands R) where
   -- a pass has come to a word: what its looks found up to there
   pub record Passing (before : Option ℕ) (number : ℕ) (w : Hands R) : Type 0 where
     pub more : List (ℕ × ℕ)
@@ -71,9 +71,9 @@ module _ {R : Type 0} (meaning : Meaning) (room : ℕ) (Has : ℕ → Type 0) (v
     pub hands_are : w ≡ seen more v
     pub found : List ℕ
     pub so_far : FoundUpTo Has before found number
-    pub each : (word : ℕ) → Among found word → FoundIn room more word
-    pub rest : (word : ℕ) → Has word → IsUpTo before word → Among found word ⊎ FoundNowhere room more word
-    pub knew : (word : ℕ) → Has word → IsUpTo before word → ShowsEntry meaning room v.looks word → Among found word
+    pub each : (word : ℕ) → Among found word → FoundIn capacity more word
+    pub rest : (word : ℕ) → Has word → IsUpTo before word → Among found word ⊎ FoundNowhere capacity more word
+    pub knew : (word : ℕ) → Has word → IsUpTo before word → ShowsEntry meaning capacity v.looks word → Among found word
 
   abbrev pub passing_none : Passing None 0 v
   passing_none = let none = looks_none v in record {
@@ -90,31 +90,31 @@ module _ {R : Type 0} (meaning : Meaning) (room : ℕ) (Has : ℕ → Type 0) (v
   module _ (before : Option ℕ) (number : ℕ) (u : Hands R) (pass : Passing before number u) (word : ℕ)
       (next : IsNextWord Has before word) (w : Hands R) where
     -- the next word was found in no cell
-    abbrev pub passing_past : SeesNone meaning room u word w → Passing (Some word) number w
+    abbrev pub passing_past : SeesNone meaning capacity u word w → Passing (Some word) number w
     passing_past t = record {
       more = t.more ++ pass.more;
       looks = seen_both v u pass.more t.more pass.hands_are pass.looks t.looks;
       hands_are = seen_twice v u w pass.more t.more pass.hands_are t.hands_are;
       found = pass.found;
       so_far = found_past Has before pass.found number pass.so_far word next;
-      each = λ other at. found_earlier room t.more pass.more other (pass.each other at);
+      each = λ other at. found_earlier capacity t.more pass.more other (pass.each other at);
       rest = λ other has most. ⊎_elim
-          (λ (e : other ≡ word). inr (subst (FoundNowhere room (t.more ++ pass.more)) (sym e)
-          (nowhere_later room t.more pass.more word t.nowhere)))
+          (λ (e : other ≡ word). inr (subst (FoundNowhere capacity (t.more ++ pass.more)) (sym e)
+          (nowhere_later capacity t.more pass.more word t.nowhere)))
           (λ (old : IsUpTo before other). ⊎_elim (λ (at : Among pass.found other). inl at)
-          (λ (none : FoundNowhere room pass.more other). inr (nowhere_earlier room t.more pass.more other none))
+          (λ (none : FoundNowhere capacity pass.more other). inr (nowhere_earlier capacity t.more pass.more other none))
           (pass.rest other has old))
           (up_to_next Has before word next other has most);
       knew = λ other has most shown. ⊎_elim
           (λ (e : other ≡ word). absurd (t.unknown
-          (subst (ShowsEntry meaning room u.looks) e
-          (still_shown meaning room v.looks u.looks (later_seen pass.more v u pass.hands_are) other shown))))
+          (subst (ShowsEntry meaning capacity u.looks) e
+          (still_shown meaning capacity v.looks u.looks (later_seen pass.more v u pass.hands_are) other shown))))
           (λ (old : IsUpTo before other). pass.knew other has old shown)
           (up_to_next Has before word next other has most);
     }
 
     -- the next word was found in a cell
-    abbrev pub passing_next : SeesIn meaning room u word w → Passing (Some word) (number + 1) w
+    abbrev pub passing_next : SeesIn meaning capacity u word w → Passing (Some word) (number + 1) w
     passing_next t = record {
       more = t.more ++ pass.more;
       looks = seen_both v u pass.more t.more pass.hands_are pass.looks t.looks;
@@ -122,11 +122,11 @@ module _ {R : Type 0} (meaning : Meaning) (room : ℕ) (Has : ℕ → Type 0) (v
       found = word ∷ pass.found;
       so_far = found_next Has before pass.found number pass.so_far word next;
       each = λ other at. ⊎_elim (λ (e : word ≡ other).
-          subst (FoundIn room (t.more ++ pass.more)) e (found_later room t.more pass.more word t.there))
-          (λ (old : Among pass.found other). found_earlier room t.more pass.more other (pass.each other old)) at;
+          subst (FoundIn capacity (t.more ++ pass.more)) e (found_later capacity t.more pass.more word t.there))
+          (λ (old : Among pass.found other). found_earlier capacity t.more pass.more other (pass.each other old)) at;
       rest = λ other has most. ⊎_elim (λ (e : other ≡ word). inl (inl (sym e)))
           (λ (old : IsUpTo before other). ⊎_elim (λ (at : Among pass.found other). inl (inr at))
-          (λ (none : FoundNowhere room pass.more other). inr (nowhere_earlier room t.more pass.more other none))
+          (λ (none : FoundNowhere capacity pass.more other). inr (nowhere_earlier capacity t.more pass.more other none))
           (pass.rest other has old))
           (up_to_next Has before word next other has most);
       knew = λ other has most shown. ⊎_elim (λ (e : other ≡ word). inl (sym e))
@@ -136,7 +136,7 @@ module _ {R : Type 0} (meaning : Meaning) (room : ℕ) (Has : ℕ → Type 0) (v
 
   -- no word comes next
   abbrev pub passed : (before : Option ℕ) (number : ℕ) (w : Hands R) → Passing before number w
-      → IsNextOf Has before None → CountsAgain meaning room v Has number w
+      → IsNextOf Has before None → CountsAgain meaning capacity v Has number w
   passed before number w pass none = record {
     more = pass.more;
     looks = pass.looks;
@@ -159,7 +159,7 @@ module _ {R : Type 0} (meaning : Meaning) (room : ℕ) (Has : ℕ → Type 0) (v
     -- a first pass has come to a word: the goals of those that it found are finished
     pub record Collecting (before : Option ℕ) (number : ℕ) (w : Hands R) : Type 0 where
       pub pass : Passing before number w
-      pub finished : (word : ℕ) → Among pass.found word → ShowsFinished meaning room w.looks (goal_of word)
+      pub finished : (word : ℕ) → Among pass.found word → ShowsFinished meaning capacity w.looks (goal_of word)
 
     pub collecting_none : Collecting None 0 v
     collecting_none = record { pass = passing_none; finished = λ word at. absurd at }
@@ -167,27 +167,27 @@ module _ {R : Type 0} (meaning : Meaning) (room : ℕ) (Has : ℕ → Type 0) (v
     module _ (before : Option ℕ) (number : ℕ) (u : Hands R) (so_far : Collecting before number u) (word : ℕ)
         (next : IsNextWord Has before word) (w : Hands R) where
       old_finished : Later u.looks w.looks → (other : ℕ) → Among so_far.pass.found other
-          → ShowsFinished meaning room w.looks (goal_of other)
-      old_finished on other at = still_finished meaning room u.looks w.looks on (goal_of other)
+          → ShowsFinished meaning capacity w.looks (goal_of other)
+      old_finished on other at = still_finished meaning capacity u.looks w.looks on (goal_of other)
           (so_far.finished other at)
 
-      pub collecting_past : SeesNone meaning room u word w → Collecting (Some word) number w
+      pub collecting_past : SeesNone meaning capacity u word w → Collecting (Some word) number w
       collecting_past t = record {
         pass = passing_past before number u so_far.pass word next w t;
         finished = old_finished (later_seen t.more u w t.hands_are);
       }
 
-      pub collecting_next : SeesIn meaning room u word w → ShowsFinished meaning room w.looks (goal_of word)
+      pub collecting_next : SeesIn meaning capacity u word w → ShowsFinished meaning capacity w.looks (goal_of word)
           → Collecting (Some word) (number + 1) w
       collecting_next t explored = record {
         pass = passing_next before number u so_far.pass word next w t;
         finished = λ other at. ⊎_elim (λ (e : word ≡ other).
-            subst (λ x. ShowsFinished meaning room w.looks (goal_of x)) e explored)
+            subst (λ x. ShowsFinished meaning capacity w.looks (goal_of x)) e explored)
             (λ (old : Among so_far.pass.found other). old_finished (later_seen t.more u w t.hands_are) other old) at;
       }
 
     pub collected : (before : Option ℕ) (number : ℕ) (w : Hands R) → Collecting before number w
-        → IsNextOf Has before None → CollectsAll meaning room v Has goal_of number w
+        → IsNextOf Has before None → CollectsAll meaning capacity v Has goal_of number w
     collected before number w so_far none = record {
       pass = passed before number w so_far.pass none;
       finished = so_far.finished;
@@ -195,7 +195,7 @@ module _ {R : Type 0} (meaning : Meaning) (room : ℕ) (Has : ℕ → Type 0) (v
 
     -- a goal that isn't finished was met in the middle of the pass
     pub meets_open : (before : Option ℕ) (number : ℕ) (u : Hands R) → Passing before number u → (goal : ℕ) (w : Hands R)
-        → FindsOpenGoal meaning room Has goal_of u goal w → FindsOpenGoal meaning room Has goal_of v goal w
+        → FindsOpenGoal meaning capacity Has goal_of u goal w → FindsOpenGoal meaning capacity Has goal_of v goal w
     meets_open before number u pass goal w t = record {
       word = t.word;
       has = t.has;
@@ -203,11 +203,11 @@ module _ {R : Type 0} (meaning : Meaning) (room : ℕ) (Has : ℕ → Type 0) (v
       more = t.more ++ pass.more;
       looks = seen_both v u pass.more t.more pass.hands_are pass.looks t.looks;
       hands_are = seen_twice v u w pass.more t.more pass.hands_are t.hands_are;
-      there = found_later room t.more pass.more t.word t.there;
-      not_finished = ⊎_elim (λ (none : FoundNowhere room t.more goal).
-          inl (nowhere_later room t.more pass.more goal none))
-          (λ (is_open : FoundOpen room t.more goal). inr (open_later room t.more pass.more goal is_open))
+      there = found_later capacity t.more pass.more t.word t.there;
+      not_finished = ⊎_elim (λ (none : FoundNowhere capacity t.more goal).
+          inl (nowhere_later capacity t.more pass.more goal none))
+          (λ (is_open : FoundOpen capacity t.more goal). inr (open_later capacity t.more pass.more goal is_open))
           t.not_finished;
-      unknown = λ shown. t.unknown (still_finished meaning room v.looks u.looks
+      unknown = λ shown. t.unknown (still_finished meaning capacity v.looks u.looks
           (later_seen pass.more v u pass.hands_are) goal shown);
     }

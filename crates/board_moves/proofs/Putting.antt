@@ -10,33 +10,34 @@ use Rattle.goal_board.specs.Calls.{FindsAt, FindsNone, Finds}
 use Rattle.goal_board.proofs.Seen.{looked_later}
 use Rattle.board_moves.specs.Moves.{OnlyLooks}
 
-module _ {R : Type 0} (room : ℕ) where
-  pub only_looks_none : (v : Hands R) (word : ℕ) (w : Hands R) → FindsNone room v word w → OnlyLooks v w
+module _ {R : Type 0} (capacity : ℕ) where
+  pub only_looks_none : (v : Hands R) (word : ℕ) (w : Hands R) → FindsNone capacity v word w → OnlyLooks v w
   only_looks_none v word w t = record { more = t.more; looks = t.looks; hands_are = t.hands_are }
 
-  pub only_looks_at : (v : Hands R) (word at : ℕ) (w : Hands R) → FindsAt room v word at w → OnlyLooks v w
+  pub only_looks_at : (v : Hands R) (word at : ℕ) (w : Hands R) → FindsAt capacity v word at w → OnlyLooks v w
   only_looks_at v word at w t = record { more = t.more; looks = t.looks; hands_are = t.hands_are }
 
   -- a word that is held was found in a cell
   pub held_at : (v : Hands R) (word : ℕ) (w : Hands R)
-      → ((found : Option ℕ) × (true ≡ is_some found) × Finds room v word found w) → (at : ℕ) × FindsAt room v word at w
+      → ((found : Option ℕ) × (true ≡ is_some found) × Finds capacity v word found w) → (at : ℕ)
+      × FindsAt capacity v word at w
   held_at v word w (None, is, t) = let bad : ⊥ = cc in absurd bad
   held_at v word w (Some at, is, t) = (at, t)
 
   -- and one that isn't was found in none
   pub held_not : (v : Hands R) (word : ℕ) (w : Hands R)
-      → ((found : Option ℕ) × (false ≡ is_some found) × Finds room v word found w) → FindsNone room v word w
+      → ((found : Option ℕ) × (false ≡ is_some found) × Finds capacity v word found w) → FindsNone capacity v word w
   held_not v word w (None, is, t) = t
   held_not v word w (Some at, is, t) = let bad : ⊥ = cc in absurd bad
 
   pub only_looks_held : (v : Hands R) (word : ℕ) (held : Bool) (w : Hands R)
-      → ((found : Option ℕ) × (held ≡ is_some found) × Finds room v word found w) → OnlyLooks v w
+      → ((found : Option ℕ) × (held ≡ is_some found) × Finds capacity v word found w) → OnlyLooks v w
   only_looks_held v word held w (None, is, t) = only_looks_none v word w t
   only_looks_held v word held w (Some at, is, t) = only_looks_at v word at w t
 
   -- what a look found in a cell is an entry
   pub found_enters : (meaning_of : R → Meaning) (rules : R) (v : Hands R) (word at : ℕ) (w : Hands R)
-      → AreHandsOver meaning_of rules room w → word ≢ 0 → FindsAt room v word at w
+      → AreHandsOver meaning_of rules capacity w → word ≢ 0 → FindsAt capacity v word at w
       → (meaning_of rules).entry word
   found_enters meaning_of rules v word at w over some_word t =
       over.entries at word t.near (subst (λ (h : Hands R). Looked h.looks (cell_word at) word) (sym t.hands_are)

@@ -20,30 +20,30 @@ use Rattle.board_moves.proofs.Putting.{only_looks_at}
 use Rattle.board_moves.proofs.OneChild.{reads_looks, stands_at, answered}
 
 -- what was found by some looks was found by these and others
-pub found_later : (room : ℕ) (more looks : List (ℕ × ℕ)) (word : ℕ) → FoundIn room more word
-    → FoundIn room (more ++ looks) word
-found_later room more looks word t = (t.0, t.1, looked_later more looks (cell_word t.0) word t.2)
+pub found_later : (capacity : ℕ) (more looks : List (ℕ × ℕ)) (word : ℕ) → FoundIn capacity more word
+    → FoundIn capacity (more ++ looks) word
+found_later capacity more looks word t = (t.0, t.1, looked_later more looks (cell_word t.0) word t.2)
 
-pub found_earlier : (room : ℕ) (more looks : List (ℕ × ℕ)) (word : ℕ) → FoundIn room looks word
-    → FoundIn room (more ++ looks) word
-found_earlier room more looks word t = (t.0, t.1, looked_earlier more looks (cell_word t.0) word t.2)
+pub found_earlier : (capacity : ℕ) (more looks : List (ℕ × ℕ)) (word : ℕ) → FoundIn capacity looks word
+    → FoundIn capacity (more ++ looks) word
+found_earlier capacity more looks word t = (t.0, t.1, looked_earlier more looks (cell_word t.0) word t.2)
 
-pub nowhere_later : (room : ℕ) (more looks : List (ℕ × ℕ)) (word : ℕ) → FoundNowhere room more word
-    → FoundNowhere room (more ++ looks) word
-nowhere_later room more looks word t =
+pub nowhere_later : (capacity : ℕ) (more looks : List (ℕ × ℕ)) (word : ℕ) → FoundNowhere capacity more word
+    → FoundNowhere capacity (more ++ looks) word
+nowhere_later capacity more looks word t =
     ⊎_elim (λ e. inl (
       e.0,
       e.1,
       looked_later more looks (cell_word e.0) 0 e.2,
-      saw_all_later room more looks word (steps_to room (home_of word room) e.0) e.3,
+      saw_all_later capacity more looks word (steps_to capacity (home_of word capacity) e.0) e.3,
     ))
-    (λ (all : SawAllOthers room more word). inr (λ place near. saw_later more looks word place (all place near))) t
+    (λ (all : SawAllOthers capacity more word). inr (λ place near. saw_later more looks word place (all place near))) t
 
-pub nowhere_earlier : (room : ℕ) (more looks : List (ℕ × ℕ)) (word : ℕ) → FoundNowhere room looks word
-    → FoundNowhere room (more ++ looks) word
-nowhere_earlier room [] looks word t = t
-nowhere_earlier room (look ∷ more) looks word t =
-    let rest = nowhere_earlier room more looks word t in
+pub nowhere_earlier : (capacity : ℕ) (more looks : List (ℕ × ℕ)) (word : ℕ) → FoundNowhere capacity looks word
+    → FoundNowhere capacity (more ++ looks) word
+nowhere_earlier capacity [] looks word t = t
+nowhere_earlier capacity (look ∷ more) looks word t =
+    let rest = nowhere_earlier capacity more looks word t in
     ⊎_elim (λ e. inl (
       e.0,
       e.1,
@@ -51,12 +51,12 @@ nowhere_earlier room (look ∷ more) looks word t =
       λ place near before. let other = e.3 place near before in
           (other.0, inr other.1, other.2, other.3),
     ))
-    (λ (all : SawAllOthers room (more ++ looks) word).
+    (λ (all : SawAllOthers capacity (more ++ looks) word).
     inr (λ place near. let other = all place near in (other.0, inr other.1, other.2, other.3))) rest
 
-pub open_later : (room : ℕ) (more looks : List (ℕ × ℕ)) (goal : ℕ) → FoundOpen room more goal
-    → FoundOpen room (more ++ looks) goal
-open_later room more looks goal t = (
+pub open_later : (capacity : ℕ) (more looks : List (ℕ × ℕ)) (goal : ℕ) → FoundOpen capacity more goal
+    → FoundOpen capacity (more ++ looks) goal
+open_later capacity more looks goal t = (
   t.0,
   t.1,
   looked_later more looks (cell_word t.0) goal t.2,
@@ -64,19 +64,20 @@ open_later room more looks goal t = (
 )
 
 -- a word that was looked for in vain wasn't shown
-pub not_shown : (meaning : Meaning) (room : ℕ) (looks : List (ℕ × ℕ)) (word : ℕ) (found : Option ℕ) → found ≡ None
-    → (ShowsEntry meaning room looks word → IsSome found) → ShowsEntry meaning room looks word → ⊥
-not_shown meaning room looks word (Some at) is shown entry = let bad : ⊥ = cc in bad
-not_shown meaning room looks word None is shown entry = false≢true (shown entry)
+pub not_shown : (meaning : Meaning) (capacity : ℕ) (looks : List (ℕ × ℕ)) (word : ℕ) (found : Option ℕ) → found ≡ None
+    → (ShowsEntry meaning capacity looks word → IsSome found) → ShowsEntry meaning capacity looks word → ⊥
+not_shown meaning capacity looks word (Some at) is shown entry = let bad : ⊥ = cc in bad
+not_shown meaning capacity looks word None is shown entry = false≢true (shown entry)
 
-module _ {R : Type 0} (meaning : Meaning) (room : ℕ) where
+module _ {R : Type 0} (meaning : Meaning) (capacity : ℕ) where
   -- a word that was looked for in vain
-  pub nowhere : (v : Hands R) (word : ℕ) (w : Hands R) → (t : FindsNone room v word w) → FoundNowhere room t.more word
-  nowhere v word w t = ⊎_elim (λ (e : EndsAtGap room v word t.more). inl (e.gap, e.near, e.empty, e.passed))
-      (λ (all : SawAllOthers room t.more word). inr all) t.nowhere
+  pub nowhere : (v : Hands R) (word : ℕ) (w : Hands R) → (t : FindsNone capacity v word w)
+      → FoundNowhere capacity t.more word
+  nowhere v word w t = ⊎_elim (λ (e : EndsAtGap capacity v word t.more). inl (e.gap, e.near, e.empty, e.passed))
+      (λ (all : SawAllOthers capacity t.more word). inr all) t.nowhere
 
-  pub sees_none : (v : Hands R) (word : ℕ) (w : Hands R) → FindsNone room v word w
-      → (ShowsEntry meaning room v.looks word → ⊥) → SeesNone meaning room v word w
+  pub sees_none : (v : Hands R) (word : ℕ) (w : Hands R) → FindsNone capacity v word w
+      → (ShowsEntry meaning capacity v.looks word → ⊥) → SeesNone meaning capacity v word w
   sees_none v word w t unknown = record {
     more = t.more;
     looks = t.looks;
@@ -85,7 +86,8 @@ module _ {R : Type 0} (meaning : Meaning) (room : ℕ) where
     unknown = unknown;
   }
 
-  pub sees_in : (v : Hands R) (word at : ℕ) (w : Hands R) → FindsAt room v word at w → SeesIn meaning room v word w
+  pub sees_in : (v : Hands R) (word at : ℕ) (w : Hands R) → FindsAt capacity v word at w
+      → SeesIn meaning capacity v word w
   sees_in v word at w t = record {
     more = t.more;
     looks = t.looks;
@@ -95,31 +97,32 @@ module _ {R : Type 0} (meaning : Meaning) (room : ℕ) where
 
   -- a goal that was found in a cell and then answered
   pub sees_explored : (v : Hands R) (goal at : ℕ) (u : Hands R) (answer : Answer) (w : Hands R) → goal ≢ 0
-      → FindsAt room v goal at u → ReadsAnswer meaning room u at answer w
-      → OnlyLooks v w × ShowsFinished meaning room w.looks goal
+      → FindsAt capacity v goal at u → ReadsAnswer meaning capacity u at answer w
+      → OnlyLooks v w × ShowsFinished meaning capacity w.looks goal
   sees_explored v goal at u answer w some_goal found read = (
-    looks_then v u w (only_looks_at room v goal at u found) (reads_looks meaning room u at answer w read),
-    (answered meaning room goal some_goal u at answer w found.near (stands_at meaning room goal some_goal v at u found)
+    looks_then v u w (only_looks_at capacity v goal at u found) (reads_looks meaning capacity u at answer w read),
+    (answered meaning capacity goal some_goal u at answer w found.near
+        (stands_at meaning capacity goal some_goal v at u found)
         read).finished,
   )
 
   -- a goal that was found in a cell, and then open
-  pub sees_open : (v : Hands R) (goal at : ℕ) (u w : Hands R) → goal ≢ 0 → FindsAt room v goal at u
-      → FindsOpen meaning room u at w → SeesOpen meaning room v goal w
+  pub sees_open : (v : Hands R) (goal at : ℕ) (u w : Hands R) → goal ≢ 0 → FindsAt capacity v goal at u
+      → FindsOpen meaning capacity u at w → SeesOpen meaning capacity v goal w
   sees_open v goal at u w some_goal found read =
-      let stands = stands_at meaning room goal some_goal v at u found in
+      let stands = stands_at meaning capacity goal some_goal v at u found in
       record {
         more = (head_word at, read.head) ∷ found.more;
         looks = seen_both v u found.more ((head_word at, read.head) ∷ []) found.hands_are found.looks read.looks;
         hands_are = seen_twice v u w found.more ((head_word at, read.head) ∷ []) found.hands_are read.hands_are;
         not_finished = inr (at, found.near, inr found.stands, (read.head, inl (refl, refl), read.not_closed));
         unknown = λ shown. read.unfinished goal some_goal stands
-            (still_finished meaning room v.looks u.looks (later_seen found.more v u found.hands_are) goal shown);
+            (still_finished meaning capacity v.looks u.looks (later_seen found.more v u found.hands_are) goal shown);
       }
 
   -- a goal that was found in no cell
-  pub sees_absent : (v : Hands R) (goal : ℕ) (w : Hands R) → FindsNone room v goal w
-      → (ShowsEntry meaning room v.looks goal → ⊥) → SeesOpen meaning room v goal w
+  pub sees_absent : (v : Hands R) (goal : ℕ) (w : Hands R) → FindsNone capacity v goal w
+      → (ShowsEntry meaning capacity v.looks goal → ⊥) → SeesOpen meaning capacity v goal w
   sees_absent v goal w t unknown = record {
     more = t.more;
     looks = t.looks;
@@ -129,19 +132,19 @@ module _ {R : Type 0} (meaning : Meaning) (room : ℕ) where
   }
 
   -- a word that was found, and then its goal finished
-  pub in_explored : (v : Hands R) (word : ℕ) (u w : Hands R) → SeesIn meaning room v word u → OnlyLooks u w
-      → SeesIn meaning room v word w
+  pub in_explored : (v : Hands R) (word : ℕ) (u w : Hands R) → SeesIn meaning capacity v word u → OnlyLooks u w
+      → SeesIn meaning capacity v word w
   in_explored v word u w first then = record {
     more = then.more ++ first.more;
     looks = seen_both v u first.more then.more first.hands_are first.looks then.looks;
     hands_are = seen_twice v u w first.more then.more first.hands_are then.hands_are;
-    there = found_earlier room then.more first.more word first.there;
+    there = found_earlier capacity then.more first.more word first.there;
   }
 
   -- a word that was found, and then its goal open
   pub in_open : (Has : ℕ → Type 0) (goal_of : ℕ → ℕ) (v : Hands R) (word goal : ℕ) (u w : Hands R) → Has word
-      → goal ≡ goal_of word → SeesIn meaning room v word u → SeesOpen meaning room u goal w
-      → FindsOpenGoal meaning room Has goal_of v goal w
+      → goal ≡ goal_of word → SeesIn meaning capacity v word u → SeesOpen meaning capacity u goal w
+      → FindsOpenGoal meaning capacity Has goal_of v goal w
   in_open Has goal_of v word goal u w has is first then = record {
     word = word;
     has = has;
@@ -149,21 +152,22 @@ module _ {R : Type 0} (meaning : Meaning) (room : ℕ) where
     more = then.more ++ first.more;
     looks = seen_both v u first.more then.more first.hands_are first.looks then.looks;
     hands_are = seen_twice v u w first.more then.more first.hands_are then.hands_are;
-    there = found_earlier room then.more first.more word first.there;
-    not_finished = ⊎_elim (λ (none : FoundNowhere room then.more goal).
-        inl (nowhere_later room then.more first.more goal none))
-        (λ (is_open : FoundOpen room then.more goal). inr (open_later room then.more first.more goal is_open))
+    there = found_earlier capacity then.more first.more word first.there;
+    not_finished = ⊎_elim (λ (none : FoundNowhere capacity then.more goal).
+        inl (nowhere_later capacity then.more first.more goal none))
+        (λ (is_open : FoundOpen capacity then.more goal). inr (open_later capacity then.more first.more goal is_open))
         then.not_finished;
-    unknown = λ shown. then.unknown (still_finished meaning room v.looks u.looks
+    unknown = λ shown. then.unknown (still_finished meaning capacity v.looks u.looks
         (later_seen first.more v u first.hands_are) goal shown);
   }
 
   -- a word that was found, and what was seen of its goal
   pub sees_goal : (Has : ℕ → Type 0) (goal_of : ℕ → ℕ) (v : Hands R) (word goal : ℕ) (u : Hands R) (seen_so : Seen)
-      (w : Hands R) → Has word → goal ≡ goal_of word → SeesIn meaning room v word u
-      → SeesGoal meaning room u goal seen_so w → Sees meaning room v Has goal_of word seen_so w
+      (w : Hands R) → Has word → goal ≡ goal_of word → SeesIn meaning capacity v word u
+      → SeesGoal meaning capacity u goal seen_so w → Sees meaning capacity v Has goal_of word seen_so w
   sees_goal Has goal_of v word goal u Absent w has is first t = absurd t
   sees_goal Has goal_of v word goal u Explored w has is first t =
-      (in_explored v word u w first t.0, subst (ShowsFinished meaning room w.looks) is t.1)
+      (in_explored v word u w first t.0, subst (ShowsFinished meaning capacity w.looks) is t.1)
   sees_goal Has goal_of v word goal u (Unexplored other) w has is first t =
-      in_open Has goal_of v word other u w has (t.0 ∙ is) first (subst (λ x. SeesOpen meaning room u x w) (sym t.0) t.1)
+      in_open Has goal_of v word other u w has (t.0 ∙ is) first
+      (subst (λ x. SeesOpen meaning capacity u x w) (sym t.0) t.1)

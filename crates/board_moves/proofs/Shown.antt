@@ -18,21 +18,21 @@ use Rattle.goal_board.specs.RightCalls.{waiting_right, IsRightOf}
 abbrev pub Later : (looks later : List (ℕ × ℕ)) → Type 0
 Later looks later = (word found : ℕ) → Looked looks word found → Looked later word found
 
-pub still_finished : (meaning : Meaning) (room : ℕ) (looks later : List (ℕ × ℕ)) → Later looks later → (goal : ℕ)
-    → ShowsFinished meaning room looks goal → ShowsFinished meaning room later goal
-still_finished meaning room looks later on _ (seen_closed goal place near some_goal at closed) =
+pub still_finished : (meaning : Meaning) (capacity : ℕ) (looks later : List (ℕ × ℕ)) → Later looks later → (goal : ℕ)
+    → ShowsFinished meaning capacity looks goal → ShowsFinished meaning capacity later goal
+still_finished meaning capacity looks later on _ (seen_closed goal place near some_goal at closed) =
     seen_closed goal place near some_goal (on _ goal at) (closed.0, on _ closed.0 closed.1, closed.2)
-still_finished meaning room looks later on _ (child_of goal child shows is) =
-    child_of goal child (still_finished meaning room looks later on goal shows) is
+still_finished meaning capacity looks later on _ (child_of goal child shows is) =
+    child_of goal child (still_finished meaning capacity looks later on goal shows) is
 
-pub still_shown : (meaning : Meaning) (room : ℕ) (looks later : List (ℕ × ℕ)) → Later looks later → (word : ℕ)
-    → ShowsEntry meaning room looks word → ShowsEntry meaning room later word
-still_shown meaning room looks later on _ (seen_there word place near some_word at) =
+pub still_shown : (meaning : Meaning) (capacity : ℕ) (looks later : List (ℕ × ℕ)) → Later looks later → (word : ℕ)
+    → ShowsEntry meaning capacity looks word → ShowsEntry meaning capacity later word
+still_shown meaning capacity looks later on _ (seen_there word place near some_word at) =
     seen_there word place near some_word (on _ word at)
-still_shown meaning room looks later on _ (asked_by goal word shows is) =
-    asked_by goal word (still_finished meaning room looks later on goal shows) is
-still_shown meaning room looks later on _ (finished goal shows) =
-    finished goal (still_finished meaning room looks later on goal shows)
+still_shown meaning capacity looks later on _ (asked_by goal word shows is) =
+    asked_by goal word (still_finished meaning capacity looks later on goal shows) is
+still_shown meaning capacity looks later on _ (finished goal shows) =
+    finished goal (still_finished meaning capacity looks later on goal shows)
 
 module _ {R : Type 0} where
   -- the looks of hands that only looked further
@@ -88,9 +88,10 @@ module _ {R : Type 0} where
   later_looked v w t = later_seen t.more v w t.hands_are
 
 -- a right that no call has changed, and whose goal stays seen
-pub right_stays : {R : Type 0} → (meaning : Meaning) (room : ℕ) (v w : Hands R) (right : Right) → w.rights ≡ v.rights
-    → Later v.looks w.looks → IsRightOf meaning room v right → IsRightOf meaning room w right
-right_stays meaning room v w right same on old = record {
+pub right_stays : {R : Type 0} → (meaning : Meaning) (capacity : ℕ) (v w : Hands R) (right : Right)
+    → w.rights ≡ v.rights
+    → Later v.looks w.looks → IsRightOf meaning capacity v right → IsRightOf meaning capacity w right
+right_stays meaning capacity v w right same on old = record {
   near = old.near;
   held = subst (λ (rights : List Claimed). Among rights (waiting_right right.place right.waits)) (sym same) old.held;
   few = old.few;

@@ -50,26 +50,26 @@ module _ {R : Type 0} (Adds : ℕ → Type 0) (v : Hands R) (before : Right) whe
     pub more_waits : after.waits ≡ before.waits + waits
 
   -- it came to an entry that found every cell taken by another word, and then the full word was set
-  pub record RunsOut (room : ℕ) (w : Hands R) (after : Right) : Type 0 where
+  pub record RunsOut (capacity : ℕ) (w : Hands R) (after : Right) : Type 0 where
     pub middle : Hands R
     pub proceeds : Proceeds middle after
     pub word : ℕ
     pub adds_it : Adds word
-    pub full : FindsFull room middle word w
+    pub full : FindsFull capacity middle word w
 
 -- the looks show a child finished, and this is its answer
-pub record IsAnsweredBy (meaning : Meaning) (room : ℕ) (looks : List (ℕ × ℕ)) (child : ℕ) (answer : Answer) : Type 0
+pub record IsAnsweredBy (meaning : Meaning) (capacity : ℕ) (looks : List (ℕ × ℕ)) (child : ℕ) (answer : Answer) : Type 0
   where
-    pub finished : ShowsFinished meaning room looks child
+    pub finished : ShowsFinished meaning capacity looks child
     pub exact : meaning.answer child answer.cost answer.node
 
-module _ {R : Type 0} (meaning : Meaning) (room : ℕ) (v : Hands R) (before : Right) where
+module _ {R : Type 0} (meaning : Meaning) (capacity : ℕ) (v : Hands R) (before : Right) where
   -- what came of one child: it is finished and has this answer, or the right has a wait, or the child found no cell
   abbrev pub Awaits : (child : ℕ) → Progress → Hands R → Right → Type 0
   Awaits child (Complete answer) w after = Proceeds (meaning.child before.goal) v before w after
-      × (after.waits ≡ before.waits) × IsAnsweredBy meaning room w.looks child answer
+      × (after.waits ≡ before.waits) × IsAnsweredBy meaning capacity w.looks child answer
   Awaits child Waiting w after = Proceeds (meaning.child before.goal) v before w after × (1 ≤ after.waits)
-  Awaits child Full w after = RunsOut (meaning.child before.goal) v before room w after
+  Awaits child Full w after = RunsOut (meaning.child before.goal) v before capacity w after
 
 -- complete with this answer where the right has no wait, and else waiting
 abbrev pub IsDoneUnlessWaiting : Right → Answer → Progress → Type 0

@@ -11,19 +11,19 @@ use Rattle.board_moves.specs.Collects.{FoundIn, FoundNowhere, FoundOpen, Falls, 
 use Rattle.board_moves.specs.declared.settled.Seen.{Seen}
 use Rattle.board_moves.specs.declared.settled.Seen.TheVariants.{Absent, Explored, Unexplored}
 
-module _ {R : Type 0} (meaning : Meaning) (room : ℕ) (v : Hands R) where
+module _ {R : Type 0} (meaning : Meaning) (capacity : ℕ) (v : Hands R) where
   -- a goal was found in no cell, or open, and wasn't shown finished before
   pub record SeesOpen (goal : ℕ) (w : Hands R) : Type 0 where
     pub more : List (ℕ × ℕ)
     pub looks : IsSeen v more
     pub hands_are : w ≡ seen more v
-    pub not_finished : FoundNowhere room more goal ⊎ FoundOpen room more goal
-    pub unknown : ShowsFinished meaning room v.looks goal → ⊥
+    pub not_finished : FoundNowhere capacity more goal ⊎ FoundOpen capacity more goal
+    pub unknown : ShowsFinished meaning capacity v.looks goal → ⊥
 
   -- whether a goal is finished
   abbrev pub SeesGoal : (goal : ℕ) → Seen → Hands R → Type 0
   SeesGoal goal Absent w = ⊥
-  SeesGoal goal Explored w = OnlyLooks v w × ShowsFinished meaning room w.looks goal
+  SeesGoal goal Explored w = OnlyLooks v w × ShowsFinished meaning capacity w.looks goal
   SeesGoal goal (Unexplored other) w = (other ≡ goal) × SeesOpen goal w
 
   -- a word was found in no cell, and wasn't shown in one before
@@ -31,41 +31,41 @@ module _ {R : Type 0} (meaning : Meaning) (room : ℕ) (v : Hands R) where
     pub more : List (ℕ × ℕ)
     pub looks : IsSeen v more
     pub hands_are : w ≡ seen more v
-    pub nowhere : FoundNowhere room more word
-    pub unknown : ShowsEntry meaning room v.looks word → ⊥
+    pub nowhere : FoundNowhere capacity more word
+    pub unknown : ShowsEntry meaning capacity v.looks word → ⊥
 
   -- a word was found in a cell
   pub record SeesIn (word : ℕ) (w : Hands R) : Type 0 where
     pub more : List (ℕ × ℕ)
     pub looks : IsSeen v more
     pub hands_are : w ≡ seen more v
-    pub there : FoundIn room more word
+    pub there : FoundIn capacity more word
 
   module _ (Has : ℕ → Type 0) (goal_of : ℕ → ℕ) where
     -- whether a word is in a cell, and its goal finished
     abbrev pub Sees : (word : ℕ) → Seen → Hands R → Type 0
     Sees word Absent w = SeesNone word w
-    Sees word Explored w = SeesIn word w × ShowsFinished meaning room w.looks (goal_of word)
-    Sees word (Unexplored goal) w = FindsOpenGoal meaning room Has goal_of v goal w
+    Sees word Explored w = SeesIn word w × ShowsFinished meaning capacity w.looks (goal_of word)
+    Sees word (Unexplored goal) w = FindsOpenGoal meaning capacity Has goal_of v goal w
 
   -- a pass that found so many of the words, among them all that were shown in cells before
   pub record CountsAgain (Has : ℕ → Type 0) (number : ℕ) (w : Hands R) : Type 0 where
     pub more : List (ℕ × ℕ)
     pub looks : IsSeen v more
     pub hands_are : w ≡ seen more v
-    pub counts : Counts Has room more number
-    pub knew : (word : ℕ) → Has word → ShowsEntry meaning room v.looks word → Among counts.found word
+    pub counts : Counts Has capacity more number
+    pub knew : (word : ℕ) → Has word → ShowsEntry meaning capacity v.looks word → Among counts.found word
 
   module _ (Has : ℕ → Type 0) (goal_of : ℕ → ℕ) where
     -- the same, where the looks show the goals of all of them finished
     pub record CollectsAll (number : ℕ) (w : Hands R) : Type 0 where
       pub pass : CountsAgain Has number w
-      pub finished : (word : ℕ) → Among pass.counts.found word → ShowsFinished meaning room w.looks (goal_of word)
+      pub finished : (word : ℕ) → Among pass.counts.found word → ShowsFinished meaning capacity w.looks (goal_of word)
 
     -- the first pass: so many were found, and their goals are finished, or the goal of one isn't
     abbrev pub Collects : Result ℕ ℕ → Hands R → Type 0
     Collects (Ok number) w = CollectsAll number w
-    Collects (Err goal) w = FindsOpenGoal meaning room Has goal_of v goal w
+    Collects (Err goal) w = FindsOpenGoal meaning capacity Has goal_of v goal w
 
     -- the words that were found: all that were shown in cells before; their goals are finished, unless the right has a
     -- wait
@@ -74,11 +74,12 @@ module _ {R : Type 0} (meaning : Meaning) (room : ℕ) (v : Hands R) where
       pub found : List ℕ
       pub falls : Falls found
       pub number_is : number ≡ length found
-      pub knew : (word : ℕ) → Has word → ShowsEntry meaning room v.looks word → Among found word
-      pub each : (word : ℕ) → Among found word → Has word × ShowsEntry meaning room w.looks word
-      pub finished : after.waits ≡ 0 → (word : ℕ) → Among found word → ShowsFinished meaning room w.looks (goal_of word)
+      pub knew : (word : ℕ) → Has word → ShowsEntry meaning capacity v.looks word → Among found word
+      pub each : (word : ℕ) → Among found word → Has word × ShowsEntry meaning capacity w.looks word
+      pub finished : after.waits ≡ 0 → (word : ℕ) → Among found word
+          → ShowsFinished meaning capacity w.looks (goal_of word)
 
     -- so many words were found in cells, and their goals awaited, or one of these found no cell
     abbrev pub AwaitsFound : (before : Right) → Option ℕ → Hands R → Right → Type 0
     AwaitsFound before (Some number) w after = AwaitsAll before number w after
-    AwaitsFound before None w after = RunsOut (meaning.child before.goal) v before room w after
+    AwaitsFound before None w after = RunsOut (meaning.child before.goal) v before capacity w after

@@ -22,9 +22,9 @@ pub fn await_found<R: GoalRules, M: Members, H: Hints>(
     requires right { HasRightTo R.meaning board.now seat.old job.old.right }
     requires words { M.can_next members.now }
     requires some_word { (word : ℕ) → M.has members.now word → word ≢ 0 }
-    requires children { HaveChildGoals (R.meaning board.now.key.rules) (M.has members.now)
+    requires children { HaveChildGoals (R.meaning board.now.setup.rules) (M.has members.now)
         (M.goal_of members.now) job.old.right.goal }
-    requires hints { H.capacity hints.old ≡ board.now.key.room }
+    requires hints { H.capacity hints.old ≡ board.now.setup.capacity }
     ensures seat { IsSeatOf R.meaning board.now seat.new }
     ensures right { HasRightTo R.meaning board.now seat.new job.new.right }
     ensures awaits { SeatAwaitsFound R.meaning board.now seat.old (M.has members.now) (M.goal_of members.now)

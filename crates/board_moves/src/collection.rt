@@ -13,7 +13,7 @@ use goal_board::{Board, GoalRules, Seat};
 pub fn settle<R: GoalRules, W: Group>(board: &Board<R>, seat: &mut Seat<R>, group: &W) -> Settled
     requires seat { IsSeatOf R.meaning board.now seat.old }
     requires can_next { W.can_next group.now }
-    requires group { IsExploration (R.meaning board.now.key.rules)
+    requires group { IsExploration (R.meaning board.now.setup.rules)
         (W.origin group.now) (W.has group.now) (W.goal_of group.now) (W.goal group.now) }
     requires origin { HasSeenEntry R.meaning board.now seat.old (W.origin group.now) }
     ensures seat { IsSeatOf R.meaning board.now seat.new }
@@ -41,7 +41,7 @@ fn collect<R: GoalRules, W: Group>(
 ) -> Result<u64, u64>
     requires seat { IsSeatOf R.meaning board.now seat.old }
     requires can_next { W.can_next group.now }
-    requires group { IsExploration (R.meaning board.now.key.rules)
+    requires group { IsExploration (R.meaning board.now.setup.rules)
         (W.origin group.now) (W.has group.now) (W.goal_of group.now) (W.goal group.now) }
     ensures seat { IsSeatOf R.meaning board.now seat.new }
     ensures collects { SeatCollects R.meaning board.now seat.old (W.has group.now) (W.goal_of group.now)
@@ -82,7 +82,7 @@ fn count<R: GoalRules, W: Words>(board: &Board<R>, seat: &mut Seat<R>, group: &W
 // Whether a word is in a cell, and its goal finished.
 fn see<R: GoalRules, W: Group>(board: &Board<R>, seat: &mut Seat<R>, group: &W, word: u64) -> Seen
     requires seat { IsSeatOf R.meaning board.now seat.old }
-    requires group { IsExploration (R.meaning board.now.key.rules)
+    requires group { IsExploration (R.meaning board.now.setup.rules)
         (W.origin group.now) (W.has group.now) (W.goal_of group.now) (W.goal group.now) }
     requires word { W.has group.now word }
     ensures seat { IsSeatOf R.meaning board.now seat.new }

@@ -16,10 +16,10 @@ pub fn put_goal<R: GoalRules, H: Hints>(
     hints: &mut H,
 ) -> Inserted
     requires seat { IsSeatOf R.meaning board.now seat.old }
-    requires enters { (R.meaning board.now.key.rules).entry goal }
-    requires hints { H.capacity hints.old ≡ board.now.key.room }
+    requires enters { (R.meaning board.now.setup.rules).entry goal }
+    requires hints { H.capacity hints.old ≡ board.now.setup.capacity }
     ensures seat { IsSeatOf R.meaning board.now seat.new }
-    ensures answer { Inserts board.now.key.room (hands seat.old) goal result (hands seat.new) }
+    ensures answer { Inserts board.now.setup.capacity (hands seat.old) goal result (hands seat.new) }
     ensures hints { H.capacity hints.new ≡ H.capacity hints.old }
 {
     let put = board.insert(seat, goal);
@@ -39,11 +39,11 @@ pub fn next_entry<R: GoalRules, W: Words>(
     requires seat { IsSeatOf R.meaning board.now seat.old }
     requires words { W.can_next words.now }
     requires some_word { (word : ℕ) → W.has words.now word → word ≢ 0 }
-    requires shown { (word : ℕ) → IsEntryOf (R.meaning board.now.key.rules) (W.has words.now) word →
-        ShowsEntry (R.meaning board.now.key.rules) board.now.key.room (hands seat.old).looks word }
+    requires shown { (word : ℕ) → IsEntryOf (R.meaning board.now.setup.rules) (W.has words.now) word →
+        ShowsEntry (R.meaning board.now.setup.rules) board.now.setup.capacity (hands seat.old).looks word }
     ensures seat { IsSeatOf R.meaning board.now seat.new }
     ensures looks { OnlyLooks (hands seat.old) (hands seat.new) }
-    ensures next { IsNextOf (IsEntryOf (R.meaning board.now.key.rules) (W.has words.now)) before result }
+    ensures next { IsNextOf (IsEntryOf (R.meaning board.now.setup.rules) (W.has words.now)) before result }
 {
     let mut before = before;
     while let Some(word) = words.next(before) {

@@ -25,14 +25,14 @@ pub fn explore<R: GoalRules, W: Group, H: Hints>(
     requires fresh { job.old.right.waits ≡ 0 }
     requires goal { job.old.right.goal ≡ W.goal group.now }
     requires can_next { W.can_next group.now }
-    requires group { IsExploration (R.meaning board.now.key.rules)
+    requires group { IsExploration (R.meaning board.now.setup.rules)
         (W.origin group.now) (W.has group.now) (W.goal_of group.now) (W.goal group.now) }
-    requires answer { (R.meaning board.now.key.rules).answer (W.goal group.now) 0 0 }
-    requires hints { H.capacity hints.old ≡ board.now.key.room }
+    requires answer { (R.meaning board.now.setup.rules).answer (W.goal group.now) 0 0 }
+    requires hints { H.capacity hints.old ≡ board.now.setup.capacity }
     ensures seat { IsSeatOf R.meaning board.now seat.new }
     ensures right { HasRightTo R.meaning board.now seat.new job.new.right }
-    ensures works { Works (R.meaning board.now.key.rules) board.now.key.room
-        (ExplorationAdds (R.meaning board.now.key.rules) (W.origin group.now) job.old.right.goal)
+    ensures works { Works (R.meaning board.now.setup.rules) board.now.setup.capacity
+        (ExplorationAdds (R.meaning board.now.setup.rules) (W.origin group.now) job.old.right.goal)
         (hands seat.old) job.old.right result (hands seat.new) job.new.right }
     ensures hints { H.capacity hints.new ≡ H.capacity hints.old }
 {
@@ -55,15 +55,15 @@ fn explore_members<R: GoalRules, W: Group, H: Hints>(
     requires fresh { job.old.right.waits ≡ 0 }
     requires goal { job.old.right.goal ≡ W.goal group.now }
     requires can_next { W.can_next group.now }
-    requires group { IsExploration (R.meaning board.now.key.rules)
+    requires group { IsExploration (R.meaning board.now.setup.rules)
         (W.origin group.now) (W.has group.now) (W.goal_of group.now) (W.goal group.now) }
     requires origin { HasSeenEntry R.meaning board.now seat.old (W.origin group.now) }
-    requires answer { (R.meaning board.now.key.rules).answer (W.goal group.now) 0 0 }
-    requires hints { H.capacity hints.old ≡ board.now.key.room }
+    requires answer { (R.meaning board.now.setup.rules).answer (W.goal group.now) 0 0 }
+    requires hints { H.capacity hints.old ≡ board.now.setup.capacity }
     ensures seat { IsSeatOf R.meaning board.now seat.new }
     ensures right { HasRightTo R.meaning board.now seat.new job.new.right }
-    ensures works { Works (R.meaning board.now.key.rules) board.now.key.room
-        ((R.meaning board.now.key.rules).child job.old.right.goal)
+    ensures works { Works (R.meaning board.now.setup.rules) board.now.setup.capacity
+        ((R.meaning board.now.setup.rules).child job.old.right.goal)
         (hands seat.old) job.old.right result (hands seat.new) job.new.right }
     ensures hints { H.capacity hints.new ≡ H.capacity hints.old }
 {

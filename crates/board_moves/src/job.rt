@@ -63,8 +63,8 @@ impl Job {
     ) -> Progress
         requires seat { IsSeatOf R.meaning board.now seat.old }
         requires right { HasRightTo R.meaning board.now seat.old self.old.right }
-        requires child { (R.meaning board.now.key.rules).child self.old.right.goal child }
-        requires hints { H.capacity hints.old ≡ board.now.key.room }
+        requires child { (R.meaning board.now.setup.rules).child self.old.right.goal child }
+        requires hints { H.capacity hints.old ≡ board.now.setup.capacity }
         ensures seat { IsSeatOf R.meaning board.now seat.new }
         ensures right { HasRightTo R.meaning board.now seat.new self.new.right }
         ensures awaits { SeatAwaitsChild R.meaning board.now seat.old self.old.right child
@@ -91,9 +91,9 @@ impl Job {
     ) -> Progress
         requires seat { IsSeatOf R.meaning board.now seat.old }
         requires right { HasRightTo R.meaning board.now seat.old self.old.right }
-        requires near { at < board.now.key.room }
+        requires near { at < board.now.setup.capacity }
         requires stands { Looked (hands seat.old).looks (cell_word at) child }
-        requires child { (R.meaning board.now.key.rules).child self.old.right.goal child }
+        requires child { (R.meaning board.now.setup.rules).child self.old.right.goal child }
         ensures seat { IsSeatOf R.meaning board.now seat.new }
         ensures right { HasRightTo R.meaning board.now seat.new self.new.right }
         ensures awaits { SeatAwaitsChild R.meaning board.now seat.old self.old.right child
@@ -127,7 +127,7 @@ impl Job {
         requires right { HasRightTo R.meaning board.now seat.old self.right }
         requires ready { SeatIsReady R.meaning board.now seat.old self.right progress }
         requires worker { worker < 64 }
-        requires hints { H.capacity hints.old ≡ board.now.key.room }
+        requires hints { H.capacity hints.old ≡ board.now.setup.capacity }
         ensures seat { IsSeatOf R.meaning board.now seat.new }
         ensures ends { SeatEnds R.meaning board.now seat.old self.right.place worker progress
             result seat.new }

@@ -52,11 +52,11 @@ pub each_both : {A : Type 0} (P Q S : A → Type 0) → ((a : A) → P a → Q a
 each_both P Q S follows [] p q = tt
 each_both P Q S follows (a ∷ l) p q = (follows a p.0 q.0, each_both P Q S follows l p.1 q.1)
 
-module _ {R : Type 0} (meaning : Meaning) (rules : R) (room : ℕ) (m : Mem) (place : ℕ) (cost node who : ℕ → ℕ)
+module _ {R : Type 0} (meaning : Meaning) (rules : R) (capacity : ℕ) (m : Mem) (place : ℕ) (cost node who : ℕ → ℕ)
     (stores : Claimed → Claimed)
-    (answers : Answers m place cost node who stores) (near : place < room) where
-  blank_stored : m.run place ≢ 0 → KeepsBlank meaning room m
-      → KeepsBlank meaning room (record m { cost = cost; node = node; who = who })
+    (answers : Answers m place cost node who stores) (near : place < capacity) where
+  blank_stored : m.run place ≢ 0 → KeepsBlank meaning capacity m
+      → KeepsBlank meaning capacity (record m { cost = cost; node = node; who = who })
   blank_stored runs old p near_p no_goal =
       let b = old p near_p no_goal in
       let ne : p ≢ place = λ e. runs (ap m.run (sym e) ∙ b.run) in
@@ -69,8 +69,8 @@ module _ {R : Type 0} (meaning : Meaning) (rules : R) (room : ℕ) (m : Mem) (pl
         next = b.next;
       }
 
-  promises_stored : m.head place < 2 ^ 63 → KeepsPromises meaning room m.cell m.head m.cost m.node
-      → KeepsPromises meaning room m.cell m.head cost node
+  promises_stored : m.head place < 2 ^ 63 → KeepsPromises meaning capacity m.cell m.head m.cost m.node
+      → KeepsPromises meaning capacity m.cell m.head cost node
   promises_stored is_open old = record {
     promise = old.promise;
     answer = λ p near_p closed.
@@ -81,8 +81,8 @@ module _ {R : Type 0} (meaning : Meaning) (rules : R) (room : ℕ) (m : Mem) (pl
   }
 
   -- what was finished is recorded elsewhere
-  recorded_stored : m.head place < 2 ^ 63 → (e : Ended) → IsRecorded room m.head m.cost m.node m.who e
-      → IsRecorded room m.head cost node who e
+  recorded_stored : m.head place < 2 ^ 63 → (e : Ended) → IsRecorded capacity m.head m.cost m.node m.who e
+      → IsRecorded capacity m.head cost node who e
   recorded_stored is_open e old =
       let ne : e.place ≢ place = λ same. let lt = subst (λ q. m.head q < 2 ^ 63) (sym same) is_open in let c =
       old.closed in absurd (omega arith) in
@@ -115,31 +115,32 @@ module _ {R : Type 0} (meaning : Meaning) (rules : R) (room : ℕ) (m : Mem) (pl
 
   -- the board is sound by kinds once a seat has stored an answer word of a goal that it holds
   pub store_keeps : (views : List (Hands R)) (id : ℕ) (v : Hands R) (kept : Option (List ℕ))
-      → get_elem? views id ≡ some v → 0 < v.parts → HasRight room v.rights place
-      → IsSoundBy meaning rules room m views
-      → IsSoundBy meaning rules room (record m { cost = cost; node = node; who = who })
+      → get_elem? views id ≡ some v → 0 < v.parts → HasRight capacity v.rights place
+      → IsSoundBy meaning rules capacity m views
+      → IsSoundBy meaning rules capacity (record m { cost = cost; node = node; who = who })
       (set views id (record v { alone = kept; rights = map stores v.rights }))
   store_keeps views id v kept mine some_part has k =
       let n : Mem = record m { cost = cost; node = node; who = who } in
       let w : Hands R = record v { alone = kept; rights = map stores v.rights } in
       let own = k.hands id v mine in
-      let is = held_by room m.run m.head views id v place mine has k.rights in
+      let is = held_by capacity m.run m.head views id v place mine has k.rights in
       let counts = times_map stores answers.same_place in
       record {
         cells = k.cells;
         blank = blank_stored (bit_runs (m.run place) 8 (omega (arith, is.runs))) k.blank;
-        rights = rights_stay room m.run m.head views id v w mine (λ p. counts p v.rights) refl k.rights;
-        waits = waits_stay meaning room m.cell m.head m.next m.run views id v w mine refl k.waits;
+        rights = rights_stay capacity m.run m.head views id v w mine (λ p. counts p v.rights) refl k.rights;
+        waits = waits_stay meaning capacity m.cell m.head m.next m.run views id v w mine refl k.waits;
         promises = promises_stored is.is_open k.promises;
         full = k.full;
-        hands = of_others_set (AreHands meaning rules room m) (AreHands meaning rules room n) views id w
+        hands = of_others_set (AreHands meaning rules capacity m) (AreHands meaning rules capacity n) views id w
             (λ other u ne there h.
             let both = terms_le (λ (x : Hands R). rights_at place x.rights) views id other v u ne mine there in
             let none : rights_at place u.rights ≡ 0 = omega (arith, both, is.held_once, is.right_once) in
             record {
               stays = h.stays;
               absence = h.absence;
-              recorded = each_as (IsRecorded room m.head m.cost m.node m.who) (IsRecorded room m.head cost node who)
+              recorded = each_as (IsRecorded capacity m.head m.cost m.node m.who)
+                  (IsRecorded capacity m.head cost node who)
                   (recorded_stored is.is_open) u.done h.recorded;
               stored = each_both (IsStored m.cost m.node m.who) (λ r. r.place ≢ place) (IsStored cost node who)
                   stored_else u.rights h.stored
@@ -154,14 +155,16 @@ module _ {R : Type 0} (meaning : Meaning) (rules : R) (room : ℕ) (m : Mem) (pl
             (record {
               stays = own.stays;
               absence = own.absence;
-              recorded = each_as (IsRecorded room m.head m.cost m.node m.who) (IsRecorded room m.head cost node who)
+              recorded = each_as (IsRecorded capacity m.head m.cost m.node m.who)
+                  (IsRecorded capacity m.head cost node who)
                   (recorded_stored is.is_open) v.done own.recorded;
               stored = each_map (IsStored m.cost m.node m.who) (IsStored cost node who) stores answers.stored v.rights
                   own.stored;
               ends = λ p. omega (arith, own.ends p, counts p v.rights);
               raised = each_map (IsRaised m.run v.pending) (IsRaised m.run v.pending) stores raised_stored v.rights
                   own.raised;
-              pends = pending_as meaning room m.cell m.next m.cell m.next v.looks v.looks v.rights (map stores v.rights)
+              pends = pending_as meaning capacity m.cell m.next m.cell m.next v.looks v.looks v.rights
+                  (map stores v.rights)
                   v.pending
                   (λ x at old. record {
                     has = record {
@@ -176,7 +179,7 @@ module _ {R : Type 0} (meaning : Meaning) (rules : R) (room : ℕ) (m : Mem) (pl
                   })
                   own.pends;
               walked = own.walked;
-              awake = inr (awake_has rules room v some_part own.awake);
+              awake = inr (awake_has rules capacity v some_part own.awake);
             });
         parts = total_same (λ (h : Hands R). h.parts) views id v w mine refl ∙ k.parts;
       }

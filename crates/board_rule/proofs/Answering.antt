@@ -95,29 +95,29 @@ answers_who m place x = record {
       });
 }
 
-module _ {R : Type 0} (meaning_of : R → Meaning) (rules : R) (room : ℕ) where
+module _ {R : Type 0} (meaning_of : R → Meaning) (rules : R) (capacity : ℕ) where
   -- a board is sound once a seat has stored an answer word of a goal that it holds
   stored_keeps : (words : List ℕ) (views : List (Hands R)) (id : ℕ) (v : Hands R) (word place x : ℕ)
       (cost node who : ℕ → ℕ) (stores : Claimed → Claimed)
-      → IsSound (meaning_of rules) rules room words views → get_elem? views id ≡ some v → 0 < v.parts
-      → HasRight room v.rights place
+      → IsSound (meaning_of rules) rules capacity words views → get_elem? views id ≡ some v → 0 < v.parts
+      → HasRight capacity v.rights place
       → mem (set words word x) ≡ record (mem words) { cost = cost; node = node; who = who }
       → Answers (mem words) place cost node who stores
-      → IsSound (meaning_of rules) rules room (set words word x)
+      → IsSound (meaning_of rules) rules capacity (set words word x)
       (set views id (record v { alone = changed word x v.alone; rights = map stores v.rights }))
   stored_keeps words views id v word place x cost node who stores sound mine some_part has stored answers =
       let w : Hands R = record v { alone = changed word x v.alone; rights = map stores v.rights } in
       record {
         count = length-set words word x ∙ sound.count;
-        by_kinds = subst (λ b. IsSoundBy (meaning_of rules) rules room b (set views id w)) (sym stored)
-            (store_keeps (meaning_of rules) rules room
+        by_kinds = subst (λ b. IsSoundBy (meaning_of rules) rules capacity b (set views id w)) (sym stored)
+            (store_keeps (meaning_of rules) rules capacity
             (mem words) place cost node who stores answers has.near views id v
             w.alone mine some_part has sound.by_kinds);
         alone = alone_set words views id word x v w mine refl sound.alone;
       }
 
-  cost_at : (slots id : ℕ) (me : Sat R) (place x : ℕ) → 0 < me.0.parts → HasRight room me.0.rights place
-      → Allows (Holds meaning_of rules room) slots id me (cost_word place) (λ _. x)
+  cost_at : (slots id : ℕ) (me : Sat R) (place x : ℕ) → 0 < me.0.parts → HasRight capacity me.0.rights place
+      → Allows (Holds meaning_of rules capacity) slots id me (cost_word place) (λ _. x)
       (λ _. TellsStoreCost meaning_of (step slots (cost_word place) x 0 none) me x)
   cost_at slots id me place x some_part has s sound homes mine fits =
       let m : Mem = mem s.words in
@@ -133,16 +133,16 @@ module _ {R : Type 0} (meaning_of : R → Meaning) (rules : R) (room : ℕ) wher
       )
 
   pub store_cost_allowed : (slots id : ℕ) (me : Sat R) (i place x : ℕ) → i ≡ cost_word place → HasPart me.0
-      → HasRight room me.0.rights place
-      → Allows (Holds meaning_of rules room) slots id me i (λ _. x)
+      → HasRight capacity me.0.rights place
+      → Allows (Holds meaning_of rules capacity) slots id me i (λ _. x)
       (λ _. TellsStoreCost meaning_of (step slots i x 0 none) me x)
   store_cost_allowed slots id me i place x is some_part has =
-      subst (λ j. Allows (Holds meaning_of rules room) slots id me j (λ _. x)
+      subst (λ j. Allows (Holds meaning_of rules capacity) slots id me j (λ _. x)
       (λ _. TellsStoreCost meaning_of (step slots j x 0 none) me x)) (sym is)
       (cost_at slots id me place x some_part has)
 
-  node_at : (slots id : ℕ) (me : Sat R) (place x : ℕ) → 0 < me.0.parts → HasRight room me.0.rights place
-      → Allows (Holds meaning_of rules room) slots id me (node_word place) (λ _. x)
+  node_at : (slots id : ℕ) (me : Sat R) (place x : ℕ) → 0 < me.0.parts → HasRight capacity me.0.rights place
+      → Allows (Holds meaning_of rules capacity) slots id me (node_word place) (λ _. x)
       (λ _. TellsStoreNode meaning_of (step slots (node_word place) x 0 none) me x)
   node_at slots id me place x some_part has s sound homes mine fits =
       let m : Mem = mem s.words in
@@ -158,16 +158,16 @@ module _ {R : Type 0} (meaning_of : R → Meaning) (rules : R) (room : ℕ) wher
       )
 
   pub store_node_allowed : (slots id : ℕ) (me : Sat R) (i place x : ℕ) → i ≡ node_word place → HasPart me.0
-      → HasRight room me.0.rights place
-      → Allows (Holds meaning_of rules room) slots id me i (λ _. x)
+      → HasRight capacity me.0.rights place
+      → Allows (Holds meaning_of rules capacity) slots id me i (λ _. x)
       (λ _. TellsStoreNode meaning_of (step slots i x 0 none) me x)
   store_node_allowed slots id me i place x is some_part has =
-      subst (λ j. Allows (Holds meaning_of rules room) slots id me j (λ _. x)
+      subst (λ j. Allows (Holds meaning_of rules capacity) slots id me j (λ _. x)
       (λ _. TellsStoreNode meaning_of (step slots j x 0 none) me x)) (sym is)
       (node_at slots id me place x some_part has)
 
-  who_at : (slots id : ℕ) (me : Sat R) (place x : ℕ) → 0 < me.0.parts → HasRight room me.0.rights place
-      → Allows (Holds meaning_of rules room) slots id me (who_word place) (λ _. x)
+  who_at : (slots id : ℕ) (me : Sat R) (place x : ℕ) → 0 < me.0.parts → HasRight capacity me.0.rights place
+      → Allows (Holds meaning_of rules capacity) slots id me (who_word place) (λ _. x)
       (λ _. TellsStoreWho meaning_of (step slots (who_word place) x 0 none) me x)
   who_at slots id me place x some_part has s sound homes mine fits =
       let m : Mem = mem s.words in
@@ -183,10 +183,10 @@ module _ {R : Type 0} (meaning_of : R → Meaning) (rules : R) (room : ℕ) wher
       )
 
   pub store_who_allowed : (slots id : ℕ) (me : Sat R) (i place x : ℕ) → i ≡ who_word place → HasPart me.0
-      → HasRight room me.0.rights place
-      → Allows (Holds meaning_of rules room) slots id me i (λ _. x)
+      → HasRight capacity me.0.rights place
+      → Allows (Holds meaning_of rules capacity) slots id me i (λ _. x)
       (λ _. TellsStoreWho meaning_of (step slots i x 0 none) me x)
   store_who_allowed slots id me i place x is some_part has =
-      subst (λ j. Allows (Holds meaning_of rules room) slots id me j (λ _. x)
+      subst (λ j. Allows (Holds meaning_of rules capacity) slots id me j (λ _. x)
       (λ _. TellsStoreWho meaning_of (step slots j x 0 none) me x)) (sym is)
       (who_at slots id me place x some_part has)

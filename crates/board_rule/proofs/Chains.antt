@@ -79,13 +79,13 @@ put_list_cases lists at l p Fact here else =
     (λ ne. subst (λ b. Fact (cond b l (lists p))) (sym (ne_eqb p at ne)) (else ne)) (cases_eq p at)
 
 -- how often a waiter stands in all lists, once one has changed
-pub below_put_list : (lists : ℕ → List ℕ) (room at : ℕ) (l : List ℕ) (q : ℕ) → at < room
-    → below (λ c. count q (put_list lists at l c)) room + count q (lists at) ≡ below (λ c. count q (lists c))
-    room + count q l
-below_put_list lists room at l q near =
-    below_at (λ c. count q (lists c)) (λ c. count q (put_list lists at l c)) room at near
+pub below_put_list : (lists : ℕ → List ℕ) (capacity at : ℕ) (l : List ℕ) (q : ℕ) → at < capacity
+    → below (λ c. count q (put_list lists at l c)) capacity + count q (lists at) ≡ below (λ c. count q (lists c))
+    capacity + count q l
+below_put_list lists capacity at l q near =
+    below_at (λ c. count q (lists c)) (λ c. count q (put_list lists at l c)) capacity at near
     (λ p _ ne. put_list_cases lists at l p (λ x. count q x ≡ count q (lists p)) (λ e. absurd (ne e)) (λ _. refl))
-    ∙ ap (λ n. below (λ c. count q (lists c)) room + n)
+    ∙ ap (λ n. below (λ c. count q (lists c)) capacity + n)
     (put_list_cases lists at l at (λ x. count q x ≡ count q l) (λ _. refl) (λ ne. absurd (ne refl)))
 
 -- a fact of each, where it may depend on being one of the list

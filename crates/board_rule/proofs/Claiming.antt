@@ -29,11 +29,11 @@ pub held_alone : (i : ℕ) → i ≢ 8 → bit_at 256 i ≡ 0
 held_alone i ne = bit_at-pow_other 8 i ne
 
 -- a ready goal that is claimed is held by one seat
-rights_claimed : {R : Type 0} (room : ℕ) (m : Mem) (views : List (Hands R)) (id : ℕ) (v : Hands R) (place : ℕ)
+rights_claimed : {R : Type 0} (capacity : ℕ) (m : Mem) (views : List (Hands R)) (id : ℕ) (v : Hands R) (place : ℕ)
     → get_elem? views id ≡ some v
-    → m.run place ≡ 0 → place < room → KeepsRights room m.run m.head views
-    → KeepsRights room (put m.run place 256) m.head (set views id (claimed v place))
-rights_claimed room m views id v place mine ready near old =
+    → m.run place ≡ 0 → place < capacity → KeepsRights capacity m.run m.head views
+    → KeepsRights capacity (put m.run place 256) m.head (set views id (claimed v place))
+rights_claimed capacity m views id v place mine ready near old =
     let w = claimed v place in
     let was = old place near in
     let one : cond {A = ℕ} (eqb place place) 1 0 ≡ 1 = counts_one place place refl in
@@ -41,7 +41,7 @@ rights_claimed room m views id v place mine ready near old =
     ∙ bit_at-zero 8 in
     let h : held (set views id w) place ≡ 1 = omega (arith, held-set views id v w mine place, one) in
     let d : ended (set views id w) place ≡ 0 = omega (arith, ended-set views id v w mine place) in
-    rights_moved views id v w mine room m.run m.head (put m.run place 256) m.head place
+    rights_moved views id v w mine capacity m.run m.head (put m.run place 256) m.head place
     (λ p ne. omega (arith, counts_none place p (λ e. ne (sym e)))) (λ _ _. refl)
     (λ p ne. put_else m.run place 256 p ne) (λ _ _. refl)
     (record {
@@ -55,12 +55,12 @@ rights_claimed room m views id v place mine ready near old =
     old
 
 -- a wait that is being put in is for another goal than one that is claimed
-pends_claimed : {R : Type 0} (meaning : Meaning) (room : ℕ) (cell next : ℕ → ℕ) (v : Hands R) (place : ℕ)
+pends_claimed : {R : Type 0} (meaning : Meaning) (capacity : ℕ) (cell next : ℕ → ℕ) (v : Hands R) (place : ℕ)
     → rights_at place v.rights ≡ 0
-    → ArePending meaning room cell next v.looks v.rights v.pending
-    → ArePending meaning room cell next ((claimed v place).looks) (fresh_right place ∷ v.rights) v.pending
-pends_claimed meaning room cell next v place none_of =
-    pending_as meaning room cell next cell next v.looks ((run_word place, 0) ∷ v.looks) v.rights
+    → ArePending meaning capacity cell next v.looks v.rights v.pending
+    → ArePending meaning capacity cell next ((claimed v place).looks) (fresh_right place ∷ v.rights) v.pending
+pends_claimed meaning capacity cell next v place none_of =
+    pending_as meaning capacity cell next cell next v.looks ((run_word place, 0) ∷ v.looks) v.rights
     (fresh_right place ∷ v.rights) v.pending
     (λ x is old.
     let has = old.has.held in
@@ -73,12 +73,12 @@ pends_claimed meaning room cell next v place none_of =
       looked = λ head at. inr (old.looked head at);
     })
 
-module _ {R : Type 0} (meaning_of : R → Meaning) (rules : R) (room : ℕ) where
+module _ {R : Type 0} (meaning_of : R → Meaning) (rules : R) (capacity : ℕ) where
   -- a board is sound once a seat has claimed a ready goal
   claim_keeps : (words : List ℕ) (views : List (Hands R)) (id : ℕ) (v : Hands R) (place : ℕ)
-      → IsSound (meaning_of rules) rules room words views → get_elem? views id ≡ some v
-      → 0 < v.parts → MayClaim (meaning_of rules) room v place → get_or words (run_word place) 0 ≡ 0
-      → IsSound (meaning_of rules) rules room (set words (run_word place) 256) (set views id (claimed v place))
+      → IsSound (meaning_of rules) rules capacity words views → get_elem? views id ≡ some v
+      → 0 < v.parts → MayClaim (meaning_of rules) capacity v place → get_or words (run_word place) 0 ≡ 0
+      → IsSound (meaning_of rules) rules capacity (set words (run_word place) 256) (set views id (claimed v place))
   claim_keeps words views id v place sound mine some_part may ready =
       let meaning : Meaning = meaning_of rules in
       let m : Mem = mem words in
@@ -88,7 +88,7 @@ module _ {R : Type 0} (meaning_of : R → Meaning) (rules : R) (room : ℕ) wher
       let own = k.hands id v mine in
       let near = may.near in
       let stands : m.cell place ≡ may.goal = own.stays.cells place may.goal may.stands may.some_goal in
-      let holds : HoldsGoal meaning room m.cell place =
+      let holds : HoldsGoal meaning capacity m.cell place =
       subst (λ x. (x ≢ 0) × IsTrue (meaning.goal x)) (sym stands) (may.some_goal, may.is_goal) in
       let same : SameBits m.run run = same_bits_put m.run place 256
       (λ b few. held_alone b (λ e. omega arith) ∙ sym (bit_at-zero b) ∙ ap (λ x. bit_at x b) (sym ready)) in
@@ -96,10 +96,10 @@ module _ {R : Type 0} (meaning_of : R → Meaning) (rules : R) (room : ℕ) wher
       let running : bit_at (m.run place) 8 ≡ held views place + ended views place = (k.rights place near).running in
       let no_bit : bit_at (m.run place) 8 ≡ 0 = ap (λ x. bit_at x 8) ready ∙ bit_at-zero 8 in
       let none_mine : rights_at place v.rights ≡ 0 = omega (arith, own_rights, running, no_bit) in
-      run_step_keeps meaning_of rules room words views id v w place 0 256 sound mine some_part near (record {
-        blank = blank_run meaning room m place 256 holds k.blank;
-        rights = rights_claimed room m views id v place mine ready near k.rights;
-        waits = waits_as meaning room m.cell m.head m.next m.run run views (set views id w) same
+      run_step_keeps meaning_of rules capacity words views id v w place 0 256 sound mine some_part near (record {
+        blank = blank_run meaning capacity m place 256 holds k.blank;
+        rights = rights_claimed capacity m views id v place mine ready near k.rights;
+        waits = waits_as meaning capacity m.cell m.head m.next m.run run views (set views id w) same
             (handed_same views id v w mine refl) k.waits;
         others = λ other u ne there h. raised_as m.run run u.pending u.rights same h.raised;
         stored = (
@@ -111,49 +111,56 @@ module _ {R : Type 0} (meaning_of : R → Meaning) (rules : R) (room : ℕ) wher
           record {
             few = omega arith;
             others = λ b _ few. ap (λ x. bit_at x b) (put_here m.run place 256) ∙ held_alone b (λ e. omega arith)
-                ∙ sym (none_pending meaning room m.cell m.next v.looks v.rights v.pending place b few none_mine
+                ∙ sym (none_pending meaning capacity m.cell m.next v.looks v.rights v.pending place b few none_mine
                 own.pends);
           },
           raised_as m.run run v.pending v.rights same own.raised,
         );
-        pends = pends_claimed meaning room m.cell m.next v place none_mine own.pends;
+        pends = pends_claimed meaning capacity m.cell m.next v place none_mine own.pends;
         walked = own.walked;
       })
 
   claim_at : (slots id : ℕ) (me : Sat R) (place : ℕ) → 0 < me.0.parts
-      → MayClaim (meaning_of rules) room me.0 place
-      → Allows (Holds meaning_of rules room) slots id me (run_word place) (λ n. either (eqb n 0) 256 n)
+      → MayClaim (meaning_of rules) capacity me.0 place
+      → Allows (Holds meaning_of rules capacity) slots id me (run_word place) (λ n. either (eqb n 0) 256 n)
       (TellsClaim meaning_of (step slots (run_word place) 0 256 none) me)
   claim_at slots id me place some_part may s sound homes mine fits =
       let i : ℕ = run_word place in
       let then : ℕ → Sat R → Type 0 = TellsClaim meaning_of (step slots i 0 256 none) me in
-      let moment = moment_of meaning_of rules room s.words s.views id me.0 i sound mine some_part in
-      exchanged (get_or s.words i 0) 0 256 (Leads meaning_of rules room s i id me then)
+      let moment = moment_of meaning_of rules capacity s.words s.views id me.0 i sound mine some_part in
+      exchanged (get_or s.words i 0) 0 256 (Leads meaning_of rules capacity s i id me then)
       (λ hit. (
         claimed me.0 place,
         keeps,
         tt,
         claim_keeps s.words s.views id me.0 place sound mine some_part may hit,
         λ p same. let e : place ≡ p = omega (arith, same) in
-            subst (λ q. Tells meaning_of (ClaimsAt meaning_of me.0 q (get_or s.words i 0)) me (claimed me.0 place, me.1)) e
-            (record { hands = record { hit = λ _. refl; miss = λ miss. absurd (miss hit); moment = moment }; slots = refl }),
+            subst (λ q. Tells meaning_of (ClaimsAt meaning_of me.0 q (get_or s.words i 0)) me
+            (claimed me.0 place, me.1)) e
+            (record {
+              hands = record { hit = λ _. refl; miss = λ miss. absurd (miss hit); moment = moment };
+              slots = refl;
+            }),
       ))
       (λ miss. (
         looked me.0 i (get_or s.words i 0),
         keeps,
         tt,
-        miss_leads meaning_of rules room s id me i some_part sound mine,
+        miss_leads meaning_of rules capacity s id me i some_part sound mine,
         λ p same. let e : place ≡ p = omega (arith, same) in
             subst (λ q. Tells meaning_of (ClaimsAt meaning_of me.0 q (get_or s.words i 0)) me
             (looked me.0 i (get_or s.words i 0), me.1)) e
-            (record { hands = record { hit = λ hit. absurd (miss hit); miss = λ _. refl; moment = moment }; slots = refl }),
+            (record {
+              hands = record { hit = λ hit. absurd (miss hit); miss = λ _. refl; moment = moment };
+              slots = refl;
+            }),
       ))
 
   pub claim_allowed : (slots id : ℕ) (me : Sat R) (i place : ℕ) → i ≡ run_word place → HasPart me.0
-      → MayClaim (meaning_of rules) room me.0 place
-      → Allows (Holds meaning_of rules room) slots id me i (λ n. either (eqb n 0) 256 n)
+      → MayClaim (meaning_of rules) capacity me.0 place
+      → Allows (Holds meaning_of rules capacity) slots id me i (λ n. either (eqb n 0) 256 n)
       (TellsClaim meaning_of (step slots i 0 256 none) me)
   claim_allowed slots id me i place is some_part may =
-      subst (λ j. Allows (Holds meaning_of rules room) slots id me j (λ n. either (eqb n 0) 256 n)
+      subst (λ j. Allows (Holds meaning_of rules capacity) slots id me j (λ n. either (eqb n 0) 256 n)
       (TellsClaim meaning_of (step slots j 0 256 none) me)) (sym is)
       (claim_at slots id me place some_part may)

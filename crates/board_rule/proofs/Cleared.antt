@@ -80,10 +80,11 @@ raised_dropped run x rights =
           (cases_eq (8 * r.place + b) x.waiter);
     }) rights
 
-module _ {R : Type 0} (meaning : Meaning) (room : ℕ) (m : Mem) (views : List (Hands R)) (id : ℕ) (v w : Hands R) (q : ℕ)
+module _ {R : Type 0} (meaning : Meaning) (capacity : ℕ) (m : Mem) (views : List (Hands R)) (id : ℕ) (v w : Hands R)
+    (q : ℕ)
     (mine : get_elem? views id ≡ some v)
     (one_less : (p : ℕ) → count p (in_hand v.pending v.walk) ≡ count p (q ∷ []) + count p (in_hand w.pending w.walk))
-    (waits : KeepsWaits meaning room m.cell m.run m.head m.next views) where
+    (waits : KeepsWaits meaning capacity m.cell m.run m.head m.next views) where
   -- the waiter's bit was set, as it stood in the seat's hands
   pub was_set : wait_bit m.run q ≡ 1
   was_set =
@@ -106,7 +107,7 @@ module _ {R : Type 0} (meaning : Meaning) (room : ℕ) (m : Mem) (views : List (
       let term = term_le (λ (u : Hands R). count q (in_hand u.pending u.walk)) views id v mine in
       omega (arith, was_set, one_less q, count_one q q refl)
 
-  pub waits_cleared : KeepsWaits meaning room m.cell (run_cleared m.run q) m.head m.next (set views id w)
+  pub waits_cleared : KeepsWaits meaning capacity m.cell (run_cleared m.run q) m.head m.next (set views id w)
   waits_cleared = record {
     lists = waits.lists;
     none_left = waits.none_left;
@@ -131,12 +132,12 @@ module _ {R : Type 0} (meaning : Meaning) (room : ℕ) (m : Mem) (views : List (
         (cases_eq p q);
   }
 
-  pub rights_cleared : w.rights ≡ v.rights → w.done ≡ v.done → KeepsRights room m.run m.head views
-      → KeepsRights room (run_cleared m.run q) m.head (set views id w)
+  pub rights_cleared : w.rights ≡ v.rights → w.done ≡ v.done → KeepsRights capacity m.run m.head views
+      → KeepsRights capacity (run_cleared m.run q) m.head (set views id w)
   rights_cleared rights done old =
       let place : ℕ = q / 8 in
       let few : q % 8 < 8 = omega arith in
-      let near : place < room = waits.near q (omega (arith, was_set)) in
+      let near : place < capacity = waits.near q (omega (arith, was_set)) in
       let was = old place near in
       let x : ℕ = cleared (m.run place) (q % 8) in
       let h : held (set views id w) place ≡ held views place =
@@ -147,7 +148,7 @@ module _ {R : Type 0} (meaning : Meaning) (room : ℕ) (m : Mem) (views : List (
       let zero_bit : wait_bit m.run q ≡ 0 = ap (λ n. bit_at n (q % 8)) (was.settled (sym d ∙ one))
       ∙ held_alone (q % 8) (λ e. omega arith) in
       absurd (omega (arith, was_set)) in
-      rights_moved views id v w mine room m.run m.head (run_cleared m.run q) m.head place
+      rights_moved views id v w mine capacity m.run m.head (run_cleared m.run q) m.head place
       (λ p _. ap (rights_at p) rights) (λ p _. ap (done_at p) done) (λ p ne. put_else m.run place x p ne) (λ _ _. refl)
       (record {
         once = omega (arith, h, d, was.once);

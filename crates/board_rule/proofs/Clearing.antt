@@ -24,21 +24,22 @@ use Rattle.board_rule.proofs.Cleared.{waits_cleared, rights_cleared}
 use Rattle.board_rule.proofs.Looking.{Holds}
 
 -- what is left of a walk without its first waiter
-walked_rest : (meaning : Meaning) (room : ℕ) (m : Mem) (walk : Walk) → IsWalked meaning room m.cell m.head m.next walk
-    → IsWalked meaning room m.cell m.head m.next
+walked_rest : (meaning : Meaning) (capacity : ℕ) (m : Mem) (walk : Walk)
+    → IsWalked meaning capacity m.cell m.head m.next walk
+    → IsWalked meaning capacity m.cell m.head m.next
     (record { child = walk.child; waiters = rest_of walk.waiters; next = None })
-walked_rest meaning room m walk old = record {
+walked_rest meaning capacity m walk old = record {
   chained = chain_rest m.next walk.waiters old.chained;
   read = λ found is. let no : ⊥ = cc in absurd no;
   waited = rest walk.waiters old.waited;
 }
   where
-    rest : (l : List ℕ) → Each (WaitedFor meaning room m.cell m.head walk.child) l
-        → Each (WaitedFor meaning room m.cell m.head walk.child) (rest_of l)
+    rest : (l : List ℕ) → Each (WaitedFor meaning capacity m.cell m.head walk.child) l
+        → Each (WaitedFor meaning capacity m.cell m.head walk.child) (rest_of l)
     rest [] all = tt
     rest (q ∷ qs) all = all.1
 
-module _ {R : Type 0} (meaning_of : R → Meaning) (rules : R) (room : ℕ) where
+module _ {R : Type 0} (meaning_of : R → Meaning) (rules : R) (capacity : ℕ) where
   -- a seat after it cleared a waiter's bit
   abbrev after_clear : Hands R → ℕ → ℕ → Option Pending → Walk → Hands R
   after_clear v q found pending walk = record v {
@@ -52,14 +53,14 @@ module _ {R : Type 0} (meaning_of : R → Meaning) (rules : R) (room : ℕ) wher
   -- a board is sound once a seat has cleared the bit of a waiter that it had in its hands
   clear_keeps : (words : List ℕ) (views : List (Hands R)) (id : ℕ) (v : Hands R) (q : ℕ) (pending : Option Pending)
       (walk : Walk)
-      → IsSound (meaning_of rules) rules room words views → get_elem? views id ≡ some v → 0 < v.parts
+      → IsSound (meaning_of rules) rules capacity words views → get_elem? views id ≡ some v → 0 < v.parts
       → ((p : ℕ) → count p (in_hand v.pending v.walk) ≡ count p (q ∷ []) + count p (in_hand pending walk))
       → (1 ≤ wait_bit (mem words).run q → Each (IsRaised (run_cleared (mem words).run q) pending) v.rights)
       → ((looks : List (ℕ × ℕ)) (look : ℕ × ℕ) → looks ≡ v.looks
-      → ArePending (meaning_of rules) room (mem words).cell (mem words).next (look ∷ looks) v.rights pending)
-      → IsWalked (meaning_of rules) room (mem words).cell (mem words).head (mem words).next walk
+      → ArePending (meaning_of rules) capacity (mem words).cell (mem words).next (look ∷ looks) v.rights pending)
+      → IsWalked (meaning_of rules) capacity (mem words).cell (mem words).head (mem words).next walk
       → let found = get_or words (run_word (q / 8)) 0 in
-      IsSound (meaning_of rules) rules room (set words (run_word (q / 8)) (cleared found (q % 8)))
+      IsSound (meaning_of rules) rules capacity (set words (run_word (q / 8)) (cleared found (q % 8)))
       (set views id (after_clear v q found pending walk))
   clear_keeps words views id v q pending walk sound mine some_part one_less raised pends walked =
       let meaning : Meaning = meaning_of rules in
@@ -70,14 +71,14 @@ module _ {R : Type 0} (meaning_of : R → Meaning) (rules : R) (room : ℕ) wher
       let w : Hands R = after_clear v q found pending walk in
       let k = sound.by_kinds in
       let own = k.hands id v mine in
-      let is_set = was_set meaning room m views id v w q mine one_less k.waits in
-      let near : place < room = k.waits.near q (omega (arith, is_set)) in
-      run_step_keeps meaning_of rules room words views id v w place found x sound mine some_part near (record {
-        blank = blank_running meaning room m place x (bit_runs found (q % 8) (omega (arith, is_set))) k.blank;
-        rights = rights_cleared meaning room m views id v w q mine one_less k.waits refl refl k.rights;
-        waits = waits_cleared meaning room m views id v w q mine one_less k.waits;
+      let is_set = was_set meaning capacity m views id v w q mine one_less k.waits in
+      let near : place < capacity = k.waits.near q (omega (arith, is_set)) in
+      run_step_keeps meaning_of rules capacity words views id v w place found x sound mine some_part near (record {
+        blank = blank_running meaning capacity m place x (bit_runs found (q % 8) (omega (arith, is_set))) k.blank;
+        rights = rights_cleared meaning capacity m views id v w q mine one_less k.waits refl refl k.rights;
+        waits = waits_cleared meaning capacity m views id v w q mine one_less k.waits;
         others = λ other u ne there h.
-            let none_of = not_others meaning room m views id v w q mine one_less k.waits other u ne there in
+            let none_of = not_others meaning capacity m views id v w q mine one_less k.waits other u ne there in
             let parts = hand_parts q u.pending u.walk in
             raised_cleared m.run q u.pending u.rights (omega (arith, is_set)) (omega arith) h.raised;
         stored = own.stored;
@@ -100,7 +101,7 @@ module _ {R : Type 0} (meaning_of : R → Meaning) (rules : R) (room : ℕ) wher
 
   clear_at : (slots id : ℕ) (me : Sat R) (q : ℕ) (mask : ℕ) → mask ≡ 2 ^ 64 - 1 - 2 ^ (q % 8)
       → 0 < me.0.parts → MayWalk me.0 q
-      → Allows (Holds meaning_of rules room) slots id me (run_word (q / 8)) (λ n. bit_and n mask)
+      → Allows (Holds meaning_of rules capacity) slots id me (run_word (q / 8)) (λ n. bit_and n mask)
       (TellsClearBit meaning_of (step slots (run_word (q / 8)) mask 0 none) me)
   clear_at slots id me q mask is_mask some_part may s sound homes mine fits =
       let others = may.others in
@@ -115,19 +116,19 @@ module _ {R : Type 0} (meaning_of : R → Meaning) (rules : R) (room : ℕ) wher
       let left : Walk = record { child = v.walk.child; waiters = rest_of v.walk.waiters; next = None } in
       let less = walk_counts v.pending v.walk q others walks in
       let w : Hands R = bit_cleared v q found in
-      let again = not_again meaning room m s.views id v w q mine less k.waits in
+      let again = not_again meaning capacity m s.views id v w q mine less k.waits in
       let parts = hand_parts q v.pending left in (
         bit_cleared v q found,
         keeps,
         tt,
-        subst (λ y. IsSound meaning rules room (set s.words i (bit_and found y))
+        subst (λ y. IsSound meaning rules capacity (set s.words i (bit_and found y))
             (set s.views id (bit_cleared v q found))) (sym is_mask)
             (clear_keeps s.words s.views id v q v.pending left sound mine some_part less
             (λ is_set. raised_cleared m.run q v.pending v.rights is_set (omega arith) own.raised)
-            (λ looks look same. subst (λ ls. ArePending meaning room m.cell m.next (look ∷ ls) v.rights v.pending)
+            (λ looks look same. subst (λ ls. ArePending meaning capacity m.cell m.next (look ∷ ls) v.rights v.pending)
             (sym same)
-            (pending_looked meaning room m.cell m.next look v.looks v.rights v.pending own.pends))
-            (walked_rest meaning room m v.walk own.walked)),
+            (pending_looked meaning capacity m.cell m.next look v.looks v.rights v.pending own.pends))
+            (walked_rest meaning capacity m v.walk own.walked)),
         λ p rest is.
             let one : (q ∷ others) ≡ (p ∷ rest) = sym walks ∙ is in
             let e : q ≡ p = cc in
@@ -135,7 +136,7 @@ module _ {R : Type 0} (meaning_of : R → Meaning) (rules : R) (room : ℕ) wher
             (record {
               hands = record {
                 hands_are = refl;
-                moment = moment_of meaning_of rules room s.words s.views id v i sound mine some_part;
+                moment = moment_of meaning_of rules capacity s.words s.views id v i sound mine some_part;
               };
               slots = refl;
             }),
@@ -144,16 +145,16 @@ module _ {R : Type 0} (meaning_of : R → Meaning) (rules : R) (room : ℕ) wher
   -- the seat that walks clears the bit of the first waiter
   pub clear_allowed : (slots id : ℕ) (me : Sat R) (i q : ℕ) (mask : ℕ) → i ≡ run_word (q / 8)
       → mask ≡ 2 ^ 64 - 1 - 2 ^ (q % 8) → HasPart me.0 → MayWalk me.0 q
-      → Allows (Holds meaning_of rules room) slots id me i (λ n. bit_and n mask)
+      → Allows (Holds meaning_of rules capacity) slots id me i (λ n. bit_and n mask)
       (TellsClearBit meaning_of (step slots i mask 0 none) me)
   clear_allowed slots id me i q mask is is_mask some_part may =
-      subst (λ j. Allows (Holds meaning_of rules room) slots id me j (λ n. bit_and n mask)
+      subst (λ j. Allows (Holds meaning_of rules capacity) slots id me j (λ n. bit_and n mask)
       (TellsClearBit meaning_of (step slots j mask 0 none) me)) (sym is)
       (clear_at slots id me q mask is_mask some_part may)
 
   drop_at : (slots id : ℕ) (me : Sat R) (x : Pending) (mask : ℕ) → mask ≡ 2 ^ 64 - 1 - 2 ^ (x.waiter % 8)
       → 0 < me.0.parts → MayDrop me.0 x
-      → Allows (Holds meaning_of rules room) slots id me (run_word (x.waiter / 8)) (λ n. bit_and n mask)
+      → Allows (Holds meaning_of rules capacity) slots id me (run_word (x.waiter / 8)) (λ n. bit_and n mask)
       (TellsDropWait meaning_of (step slots (run_word (x.waiter / 8)) mask 0 none) me)
   drop_at slots id me x mask is_mask some_part may s sound homes mine fits =
       let q : ℕ = x.waiter in
@@ -166,7 +167,7 @@ module _ {R : Type 0} (meaning_of : R → Meaning) (rules : R) (room : ℕ) wher
         wait_dropped v x found,
         keeps,
         tt,
-        subst (λ y. IsSound meaning rules room (set s.words i (bit_and found y))
+        subst (λ y. IsSound meaning rules capacity (set s.words i (bit_and found y))
             (set s.views id (wait_dropped v x found))) (sym is_mask)
             (clear_keeps s.words s.views id v q None v.walk sound mine some_part
             (λ p. ap (λ o. count p (in_hand o v.walk)) may.is ∙ omega arith)
@@ -177,11 +178,12 @@ module _ {R : Type 0} (meaning_of : R → Meaning) (rules : R) (room : ℕ) wher
         λ y is.
             let one : Some x ≡ Some y = sym may.is ∙ is in
             let e : x ≡ y = cc in
-            subst (λ (z : Pending). Tells meaning_of (DropsWaitOf meaning_of v z found) me (wait_dropped v x found, me.1)) e
+            subst (λ (z : Pending). Tells meaning_of (DropsWaitOf meaning_of v z found) me
+            (wait_dropped v x found, me.1)) e
             (record {
               hands = record {
                 hands_are = refl;
-                moment = moment_of meaning_of rules room s.words s.views id v i sound mine some_part;
+                moment = moment_of meaning_of rules capacity s.words s.views id v i sound mine some_part;
               };
               slots = refl;
             }),
@@ -190,9 +192,9 @@ module _ {R : Type 0} (meaning_of : R → Meaning) (rules : R) (room : ℕ) wher
   -- the seat that puts a wait in clears its bit, as it saw the child finished
   pub drop_allowed : (slots id : ℕ) (me : Sat R) (i : ℕ) (x : Pending) (mask : ℕ) → i ≡ run_word (x.waiter / 8)
       → mask ≡ 2 ^ 64 - 1 - 2 ^ (x.waiter % 8) → HasPart me.0 → MayDrop me.0 x
-      → Allows (Holds meaning_of rules room) slots id me i (λ n. bit_and n mask)
+      → Allows (Holds meaning_of rules capacity) slots id me i (λ n. bit_and n mask)
       (TellsDropWait meaning_of (step slots i mask 0 none) me)
   drop_allowed slots id me i x mask is is_mask some_part may =
-      subst (λ j. Allows (Holds meaning_of rules room) slots id me j (λ n. bit_and n mask)
+      subst (λ j. Allows (Holds meaning_of rules capacity) slots id me j (λ n. bit_and n mask)
       (TellsDropWait meaning_of (step slots j mask 0 none) me)) (sym is)
       (drop_at slots id me x mask is_mask some_part may)

@@ -24,7 +24,7 @@ use Rattle.board_rule.proofs.Rights.{without_here, without_else}
 use Rattle.board_rule.proofs.Chains.{count, put_list, put_list_cases, below_put_list}
 use Rattle.board_rule.proofs.Claiming.{held_alone}
 
-module _ (meaning : Meaning) (room : ℕ) (m : Mem) (place : ℕ) where
+module _ (meaning : Meaning) (capacity : ℕ) (m : Mem) (place : ℕ) where
   -- a closed head stays closed
   pub closed_stays : (p : ℕ) → 2 ^ 63 ≤ m.head p → 2 ^ 63 ≤ put m.head place (2 ^ 63) p
   closed_stays p closed = put_cases m.head place (2 ^ 63) p (λ x. 2 ^ 63 ≤ x) (λ _. omega arith) (λ _. closed)
@@ -52,8 +52,8 @@ module _ (meaning : Meaning) (room : ℕ) (m : Mem) (place : ℕ) where
         (λ old_look. kept.set_full found old_look some_found) at;
   }
 
-  pub recorded_close : (e : Ended) → IsRecorded room m.head m.cost m.node m.who e
-      → IsRecorded room (put m.head place (2 ^ 63)) m.cost m.node m.who e
+  pub recorded_close : (e : Ended) → IsRecorded capacity m.head m.cost m.node m.who e
+      → IsRecorded capacity (put m.head place (2 ^ 63)) m.cost m.node m.who e
   recorded_close e old = record {
     near = old.near;
     closed = closed_stays e.place old.closed;
@@ -63,22 +63,22 @@ module _ (meaning : Meaning) (room : ℕ) (m : Mem) (place : ℕ) where
     few = old.few;
   }
 
-  promised_close : (goal : ℕ) → IsPromised meaning room m.cell m.head goal
-      → IsPromised meaning room m.cell (put m.head place (2 ^ 63)) goal
+  promised_close : (goal : ℕ) → IsPromised meaning capacity m.cell m.head goal
+      → IsPromised meaning capacity m.cell (put m.head place (2 ^ 63)) goal
   promised_close goal old = record {
     children = λ child is. let t = old.children child is in (t.0, t.1, t.2, t.3, closed_stays t.0 t.4);
     asked = old.asked;
   }
 
   -- the closed goal keeps its promise and has its answer, as those before
-  pub promises_close : IsPromised meaning room m.cell m.head (m.cell place)
+  pub promises_close : IsPromised meaning capacity m.cell m.head (m.cell place)
       → meaning.answer (m.cell place) (m.cost place) (m.node place)
-      → KeepsPromises meaning room m.cell m.head m.cost m.node
-      → KeepsPromises meaning room m.cell (put m.head place (2 ^ 63)) m.cost m.node
+      → KeepsPromises meaning capacity m.cell m.head m.cost m.node
+      → KeepsPromises meaning capacity m.cell (put m.head place (2 ^ 63)) m.cost m.node
   promises_close promise answer old = record {
     promise = λ p near. put_cases m.head place (2 ^ 63) p (λ x. 2 ^ 63 ≤ x
-        → IsPromised meaning room m.cell (put m.head place (2 ^ 63)) (m.cell p))
-        (λ here _. subst (λ q. IsPromised meaning room m.cell (put m.head place (2 ^ 63)) (m.cell q)) (sym here)
+        → IsPromised meaning capacity m.cell (put m.head place (2 ^ 63)) (m.cell p))
+        (λ here _. subst (λ q. IsPromised meaning capacity m.cell (put m.head place (2 ^ 63)) (m.cell q)) (sym here)
         (promised_close (m.cell place) promise))
         (λ _ closed. promised_close (m.cell p) (old.promise p near closed));
     answer = λ p near. put_cases m.head place (2 ^ 63) p (λ x. 2 ^ 63 ≤ x
@@ -88,11 +88,12 @@ module _ (meaning : Meaning) (room : ℕ) (m : Mem) (place : ℕ) where
   }
 
   -- only places of goals have a closed head
-  pub blank_close : HoldsGoal meaning room m.cell place → KeepsBlank meaning room m
-      → KeepsBlank meaning room (record m { head = put m.head place (2 ^ 63) })
+  pub blank_close : HoldsGoal meaning capacity m.cell place → KeepsBlank meaning capacity m
+      → KeepsBlank meaning capacity (record m { head = put m.head place (2 ^ 63) })
   blank_close is_goal old p near no_goal = let b = old p near no_goal in record {
     run = b.run;
-    head = put_else m.head place (2 ^ 63) p (λ here. no_goal (subst (HoldsGoal meaning room m.cell) (sym here) is_goal))
+    head = put_else m.head place (2 ^ 63) p (λ here. no_goal
+        (subst (HoldsGoal meaning capacity m.cell) (sym here) is_goal))
         ∙ b.head;
     cost = b.cost;
     node = b.node;
@@ -101,13 +102,13 @@ module _ (meaning : Meaning) (room : ℕ) (m : Mem) (place : ℕ) where
   }
 
   -- a list that is walked is one of a closed head still
-  pub walked_close : (walk : Walk) → IsWalked meaning room m.cell m.head m.next walk
-      → IsWalked meaning room m.cell (put m.head place (2 ^ 63)) m.next walk
+  pub walked_close : (walk : Walk) → IsWalked meaning capacity m.cell m.head m.next walk
+      → IsWalked meaning capacity m.cell (put m.head place (2 ^ 63)) m.next walk
   walked_close walk old = record {
     chained = old.chained;
     read = old.read;
-    waited = each_as (WaitedFor meaning room m.cell m.head walk.child)
-        (WaitedFor meaning room m.cell (put m.head place (2 ^ 63)) walk.child)
+    waited = each_as (WaitedFor meaning capacity m.cell m.head walk.child)
+        (WaitedFor meaning capacity m.cell (put m.head place (2 ^ 63)) walk.child)
         (λ q was. record { near = was.near; closed = closed_stays walk.child was.closed; is_child = was.is_child })
         walk.waiters old.waited;
   }
@@ -125,21 +126,21 @@ runs_alone run place r at waits runs small raised = same_from_bits (run place) 2
     (cases_lt i 8))
 
 -- the right goes to what the seat finished
-pub rights_close : {R : Type 0} (room : ℕ) (run head : ℕ → ℕ) (views : List (Hands R)) (id : ℕ) (v : Hands R)
+pub rights_close : {R : Type 0} (capacity : ℕ) (run head : ℕ → ℕ) (views : List (Hands R)) (id : ℕ) (v : Hands R)
     (place worker cost node : ℕ)
     (waiters : List ℕ) → get_elem? views id ≡ some v
-    → HasRight room v.rights place → run place ≡ 256 → KeepsRights room run head views
-    → KeepsRights room run (put head place (2 ^ 63)) (set views id (finished v place worker cost node waiters))
-rights_close {R = R} room run head views id v place worker cost node waiters mine has settled old =
+    → HasRight capacity v.rights place → run place ≡ 256 → KeepsRights capacity run head views
+    → KeepsRights capacity run (put head place (2 ^ 63)) (set views id (finished v place worker cost node waiters))
+rights_close {R = R} capacity run head views id v place worker cost node waiters mine has settled old =
     let w : Hands R = finished v place worker cost node waiters in
     let was = old place has.near in
-    let is = held_by room run head views id v place mine has old in
+    let is = held_by capacity run head views id v place mine has old in
     let gone = without_here place v.rights has.held in
     let one : cond {A = ℕ} (eqb place place) 1 0 ≡ 1 = counts_one place place refl in
     let h : held (set views id w) place ≡ 0 =
     omega (arith, held-set views id v w mine place, is.held_once, is.right_once) in
     let d : ended (set views id w) place ≡ 1 = omega (arith, ended-set views id v w mine place, is.not_ended) in
-    rights_moved views id v w mine room run head run (put head place (2 ^ 63)) place
+    rights_moved views id v w mine capacity run head run (put head place (2 ^ 63)) place
     (λ p ne. without_else place p v.rights ne) (λ p ne. omega (arith, counts_none place p (λ e. ne (sym e))))
     (λ _ _. refl) (λ p ne. put_else head place (2 ^ 63) p ne)
     (record {
@@ -153,27 +154,27 @@ rights_close {R = R} room run head views id v place worker cost node waiters min
     old
 
 -- the waiters of the goal go from its list to the seat's hands
-pub waits_close : {R : Type 0} (meaning : Meaning) (room : ℕ) (m : Mem) (views : List (Hands R)) (id : ℕ)
+pub waits_close : {R : Type 0} (meaning : Meaning) (capacity : ℕ) (m : Mem) (views : List (Hands R)) (id : ℕ)
     (v w : Hands R) (place : ℕ)
-    (old : KeepsWaits meaning room m.cell m.run m.head m.next views) → get_elem? views id ≡ some v
-    → place < room → in_hand v.pending v.walk ≡ [] → in_hand w.pending w.walk ≡ old.lists place
-    → KeepsWaits meaning room m.cell m.run (put m.head place (2 ^ 63)) m.next (set views id w)
-waits_close {R = R} meaning room m views id v w place old mine near free walks = record {
+    (old : KeepsWaits meaning capacity m.cell m.run m.head m.next views) → get_elem? views id ≡ some v
+    → place < capacity → in_hand v.pending v.walk ≡ [] → in_hand w.pending w.walk ≡ old.lists place
+    → KeepsWaits meaning capacity m.cell m.run (put m.head place (2 ^ 63)) m.next (set views id w)
+waits_close {R = R} meaning capacity m views id v w place old mine near free walks = record {
   lists = put_list old.lists place [];
-  none_left = λ c in_room. put_cases m.head place (2 ^ 63) c (λ x. 2 ^ 63 ≤ x → put_list old.lists place [] c ≡ [])
+  none_left = λ c in_range. put_cases m.head place (2 ^ 63) c (λ x. 2 ^ 63 ≤ x → put_list old.lists place [] c ≡ [])
       (λ here _. put_list_cases old.lists place [] c (λ l. l ≡ []) (λ _. refl) (λ ne. absurd (ne here)))
       (λ _ closed. put_list_cases old.lists place [] c (λ l. l ≡ []) (λ _. refl)
-      (λ _. old.none_left c in_room closed));
-  heads = λ c in_room. put_cases m.head place (2 ^ 63) c (λ x. x < 2 ^ 63
+      (λ _. old.none_left c in_range closed));
+  heads = λ c in_range. put_cases m.head place (2 ^ 63) c (λ x. x < 2 ^ 63
       → x ≡ head_of (put_list old.lists place [] c))
       (λ _ is_open. absurd (omega arith))
       (λ ne is_open. put_list_cases old.lists place [] c (λ l. m.head c ≡ head_of l) (λ here. absurd (ne here))
-      (λ _. old.heads c in_room is_open));
-  chains = λ c in_room. put_list_cases old.lists place [] c (IsChain m.next) (λ _. tt) (λ _. old.chains c in_room);
-  joined = λ c in_room. put_list_cases old.lists place [] c
-      (Each (λ q. meaning.child (m.cell (q / 8)) (m.cell c))) (λ _. tt) (λ _. old.joined c in_room);
+      (λ _. old.heads c in_range is_open));
+  chains = λ c in_range. put_list_cases old.lists place [] c (IsChain m.next) (λ _. tt) (λ _. old.chains c in_range);
+  joined = λ c in_range. put_list_cases old.lists place [] c
+      (Each (λ q. meaning.child (m.cell (q / 8)) (m.cell c))) (λ _. tt) (λ _. old.joined c in_range);
   once = λ q.
-      let lists = below_put_list old.lists room place [] q near in
+      let lists = below_put_list old.lists capacity place [] q near in
       let hands = total-set (λ (u : Hands R). count q (in_hand u.pending u.walk)) views id v w mine in
       let were : count q (in_hand v.pending v.walk) ≡ 0 = ap (count q) free in
       let are : count q (in_hand w.pending w.walk) ≡ count q (old.lists place) = ap (count q) walks in

@@ -27,13 +27,13 @@ use Rattle.board_rule.proofs.CloseTopics.{stays_close, own_stays_close, recorded
 use Rattle.board_rule.proofs.CloseTopics.{runs_alone, rights_close, waits_close, ends_close}
 use Rattle.board_rule.proofs.CloseTopics.{walked_close}
 
-module _ {R : Type 0} (meaning_of : R → Meaning) (rules : R) (room : ℕ) where
+module _ {R : Type 0} (meaning_of : R → Meaning) (rules : R) (capacity : ℕ) where
   -- a board is sound once a seat has closed the head of a goal that it holds
   close_keeps : (words : List ℕ) (views : List (Hands R)) (id : ℕ) (v : Hands R) (place worker cost node : ℕ)
-      (sound : IsSound (meaning_of rules) rules room words views)
+      (sound : IsSound (meaning_of rules) rules capacity words views)
       → (mine : get_elem? views id ≡ some v) → 0 < v.parts
-      → MayClose (meaning_of rules) room v place worker cost node
-      → IsSound (meaning_of rules) rules room (set words (head_word place) (2 ^ 63))
+      → MayClose (meaning_of rules) capacity v place worker cost node
+      → IsSound (meaning_of rules) rules capacity (set words (head_word place) (2 ^ 63))
       (set views id (finished v place worker cost node (sound.by_kinds.waits.lists place)))
   close_keeps words views id v place worker cost node sound mine some_part may =
       let free = may.free in
@@ -53,51 +53,53 @@ module _ {R : Type 0} (meaning_of : R → Meaning) (rules : R) (room : ℕ) wher
       may.stored in
       let raised = each_at (IsRaised m.run v.pending) v.rights (answered_right place worker cost node) own.raised
       may.stored in
-      let has_right : HasRight room v.rights place = record { near = near; held = has } in
-      let is = held_by room m.run m.head views id v place mine has_right k.rights in
+      let has_right : HasRight capacity v.rights place = record { near = near; held = has } in
+      let is = held_by capacity m.run m.head views id v place mine has_right k.rights in
       let settled : m.run place ≡ 256 = runs_alone m.run place (answered_right place worker cost node) refl refl is.runs
       (k.rights place near).small
       (subst (λ o. IsRaised m.run o (answered_right place worker cost node)) free raised) in
       let cell : m.cell place ≡ may.goal = own.stays.cells place may.goal may.stands may.some_goal in
-      let is_goal : HoldsGoal meaning room m.cell place = (
+      let is_goal : HoldsGoal meaning capacity m.cell place = (
         (λ none_there. may.some_goal (sym cell ∙ none_there)),
         subst (λ g. IsTrue (meaning.goal g)) (sym cell) may.is_goal,
       ) in
       record {
         count = length-set words (head_word place) (2 ^ 63) ∙ count;
-        by_kinds = subst (λ b. IsSoundBy meaning rules room b (set views id w))
+        by_kinds = subst (λ b. IsSoundBy meaning rules capacity b (set views id w))
             (sym (put_head words place (2 ^ 63) (omega arith))) (record {
               cells = k.cells;
-              blank = blank_close meaning room m place is_goal k.blank;
-              rights = rights_close room m.run m.head views id v place worker cost node waiters mine has_right settled k.rights;
-              waits = waits_close meaning room m views id v w place k.waits mine near
+              blank = blank_close meaning capacity m place is_goal k.blank;
+              rights = rights_close capacity m.run m.head views id v place worker cost node waiters mine has_right
+                  settled k.rights;
+              waits = waits_close meaning capacity m views id v w place k.waits mine near
                   (ap (λ o. in_hand o v.walk) free ∙ walked)
                   (ap (λ o. in_hand o w.walk) free);
-              promises = promises_close meaning room m place
-                  (subst (IsPromised meaning room m.cell m.head) (sym cell)
-                  (shown_promise meaning room m k.promises v.looks own.stays may.goal may.promise))
+              promises = promises_close meaning capacity m place
+                  (subst (IsPromised meaning capacity m.cell m.head) (sym cell)
+                  (shown_promise meaning capacity m k.promises v.looks own.stays may.goal may.promise))
                   (subst (λ c. meaning.answer (m.cell place) c (m.node place)) (sym (stored.cost_is cost refl))
                   (subst (λ x. meaning.answer (m.cell place) cost x) (sym (stored.node_is node refl))
                   (subst (λ g. meaning.answer g cost node) (sym cell) may.answer)))
                   k.promises;
               full = k.full;
-              hands = of_others_set (AreHands meaning rules room m) (AreHands meaning rules room n) views id w
+              hands = of_others_set (AreHands meaning rules capacity m) (AreHands meaning rules capacity n) views id w
                   (λ other u ne there h. record {
-                    stays = stays_close meaning room m place u.looks h.stays;
+                    stays = stays_close meaning capacity m place u.looks h.stays;
                     absence = h.absence;
-                    recorded = each_as (IsRecorded room m.head m.cost m.node m.who)
-                        (IsRecorded room n.head m.cost m.node m.who) (recorded_close meaning room m place) u.done
+                    recorded = each_as (IsRecorded capacity m.head m.cost m.node m.who)
+                        (IsRecorded capacity n.head m.cost m.node m.who) (recorded_close meaning capacity m place)
+                        u.done
                         h.recorded;
                     stored = h.stored;
                     ends = h.ends;
                     raised = h.raised;
                     pends = h.pends;
-                    walked = walked_close meaning room m place u.walk h.walked;
+                    walked = walked_close meaning capacity m place u.walk h.walked;
                     awake = h.awake;
                   })
                   k.hands
                   (record {
-                    stays = own_stays_close meaning room m place (head_of waiters) v.looks own.stays;
+                    stays = own_stays_close meaning capacity m place (head_of waiters) v.looks own.stays;
                     absence = ((λ _ word p p_near is. absurd (omega (arith, is))), own.absence);
                     recorded = (
                       record {
@@ -109,18 +111,19 @@ module _ {R : Type 0} (meaning_of : R → Meaning) (rules : R) (room : ℕ) wher
                         who_is = stored.who_is (worker + 1) refl;
                         few = may.few;
                       },
-                      each_as (IsRecorded room m.head m.cost m.node m.who) (IsRecorded room n.head m.cost m.node m.who)
-                          (recorded_close meaning room m place) v.done own.recorded,
+                      each_as (IsRecorded capacity m.head m.cost m.node m.who)
+                          (IsRecorded capacity n.head m.cost m.node m.who)
+                          (recorded_close meaning capacity m place) v.done own.recorded,
                     );
                     stored = each_without (IsStored m.cost m.node m.who) place v.rights own.stored;
                     ends = ends_close v place worker cost node waiters has own.ends;
                     raised = each_without (IsRaised m.run v.pending) place v.rights own.raised;
-                    pends = subst (ArePending meaning room m.cell m.next w.looks w.rights) (sym free) tt;
+                    pends = subst (ArePending meaning capacity m.cell m.next w.looks w.rights) (sym free) tt;
                     walked = record {
                       chained = k.waits.chains place near;
                       read = λ found none_read. let no : ⊥ = cc in absurd no;
                       waited = each_as (λ q. meaning.child (m.cell (q / 8)) (m.cell place))
-                          (WaitedFor meaning room m.cell n.head place)
+                          (WaitedFor meaning capacity m.cell n.head place)
                           (λ q is_child. record {
                             near = near;
                             closed =
@@ -130,7 +133,7 @@ module _ {R : Type 0} (meaning_of : R → Meaning) (rules : R) (room : ℕ) wher
                           })
                           waiters (k.waits.joined place near);
                     };
-                    awake = inr (awake_has rules room v some_part own.awake);
+                    awake = inr (awake_has rules capacity v some_part own.awake);
                   });
               parts = total_same (λ (h : Hands R). h.parts) views id v w mine refl ∙ k.parts;
             });
@@ -138,20 +141,21 @@ module _ {R : Type 0} (meaning_of : R → Meaning) (rules : R) (room : ℕ) wher
       }
 
   close_at : (slots id : ℕ) (me : Sat R) (place worker cost node : ℕ) → 0 < me.0.parts
-      → MayClose (meaning_of rules) room me.0 place worker cost node
-      → Allows (Holds meaning_of rules room) slots id me (head_word place) (λ _. 2 ^ 63)
+      → MayClose (meaning_of rules) capacity me.0 place worker cost node
+      → Allows (Holds meaning_of rules capacity) slots id me (head_word place) (λ _. 2 ^ 63)
       (TellsClose meaning_of (step slots (head_word place) (2 ^ 63) 0 none) me)
   close_at slots id me place worker cost node some_part may s sound homes mine fits =
-      let moment = moment_of meaning_of rules room s.words s.views id me.0 (head_word place) sound mine some_part in
+      let moment = moment_of meaning_of rules capacity s.words s.views id me.0 (head_word place) sound mine some_part in
       let k = sound.by_kinds in
       let waiters : List ℕ = k.waits.lists place in
-      let has : HasRight room me.0.rights place =
+      let has : HasRight capacity me.0.rights place =
       record {
         near = may.near;
         held = among_counts (λ (r : Claimed). r.place) me.0.rights (answered_right place worker cost node) may.stored;
       } in
-      let is = held_by room (mem s.words).run (mem s.words).head s.views id me.0 place mine has k.rights in
-      let its_room : me.0.room ≡ room = (awake_has rules room me.0 some_part (k.hands id me.0 mine).awake).2 in
+      let is = held_by capacity (mem s.words).run (mem s.words).head s.views id me.0 place mine has k.rights in
+      let its_capacity : me.0.capacity ≡ capacity = (awake_has rules capacity me.0 some_part
+      (k.hands id me.0 mine).awake).2 in
       let few : rights_at place me.0.rights ≤ 1 = omega (arith, is.right_once) in (
         finished me.0 place worker cost node waiters,
         keeps,
@@ -173,11 +177,11 @@ module _ {R : Type 0} (meaning_of : R → Meaning) (rules : R) (room : ℕ) wher
               hands = record {
                 waiters = waiters;
                 named = k.waits.heads place may.near is.is_open;
-                near = subst (λ n. Each (λ q. q < 8 * n) waiters) (sym its_room)
-                    (waiters_within (meaning_of rules) room (mem s.words).cell (mem s.words).run (mem s.words).head
+                near = subst (λ n. Each (λ q. q < 8 * n) waiters) (sym its_capacity)
+                    (waiters_within (meaning_of rules) capacity (mem s.words).cell (mem s.words).run (mem s.words).head
                     (mem s.words).next s.views k.waits place may.near);
-                few = subst (λ n. length waiters ≤ 8 * n) (sym its_room)
-                    (list_length (meaning_of rules) room (mem s.words).cell (mem s.words).run (mem s.words).head
+                few = subst (λ n. length waiters ≤ 8 * n) (sym its_capacity)
+                    (list_length (meaning_of rules) capacity (mem s.words).cell (mem s.words).run (mem s.words).head
                     (mem s.words).next s.views k.waits place may.near);
                 leaves = record { hands_are = refl; moment = moment };
               };
@@ -186,10 +190,10 @@ module _ {R : Type 0} (meaning_of : R → Meaning) (rules : R) (room : ℕ) wher
       )
 
   pub close_allowed : (slots id : ℕ) (me : Sat R) (i place worker cost node : ℕ) → i ≡ head_word place → HasPart me.0
-      → MayClose (meaning_of rules) room me.0 place worker cost node
-      → Allows (Holds meaning_of rules room) slots id me i (λ _. 2 ^ 63)
+      → MayClose (meaning_of rules) capacity me.0 place worker cost node
+      → Allows (Holds meaning_of rules capacity) slots id me i (λ _. 2 ^ 63)
       (TellsClose meaning_of (step slots i (2 ^ 63) 0 none) me)
   close_allowed slots id me i place worker cost node is some_part may =
-      subst (λ j. Allows (Holds meaning_of rules room) slots id me j (λ _. 2 ^ 63)
+      subst (λ j. Allows (Holds meaning_of rules capacity) slots id me j (λ _. 2 ^ 63)
       (TellsClose meaning_of (step slots j (2 ^ 63) 0 none) me)) (sym is)
       (close_at slots id me place worker cost node some_part may)

@@ -17,9 +17,9 @@ use Rattle.board_rule.proofs.Waits.{waits_stay, pending_looked}
 use Rattle.board_rule.proofs.Looking.{Holds}
 
 -- other words seen in all cells, none of them this one, show the board full
-fills : {R : Type 0} (meaning : Meaning) (room : ℕ) (cell head : ℕ → ℕ) (full : ℕ) (v : Hands R)
-    → Stays cell head full v.looks → MayFill meaning room v → IsFull meaning room cell
-fills meaning room cell head full v stays may = record {
+fills : {R : Type 0} (meaning : Meaning) (capacity : ℕ) (cell head : ℕ → ℕ) (full : ℕ) (v : Hands R)
+    → Stays cell head full v.looks → MayFill meaning capacity v → IsFull meaning capacity cell
+fills meaning capacity cell head full v stays may = record {
   taken = λ p near. let t = may.passed p near in let e = stays.cells p t.0 t.1 t.2 in λ none. t.2 (sym e ∙ none);
   left_out = (
     may.word,
@@ -47,12 +47,12 @@ stays_filled cell head looks old = record {
   set_full = λ found at some_found none. absurd (omega arith);
 }
 
-module _ {R : Type 0} (meaning_of : R → Meaning) (rules : R) (room : ℕ) where
+module _ {R : Type 0} (meaning_of : R → Meaning) (rules : R) (capacity : ℕ) where
   -- a board is sound once a seat that found all cells taken has set the full word
   fill_keeps : (words : List ℕ) (views : List (Hands R)) (id : ℕ) (v : Hands R)
-      → IsSound (meaning_of rules) rules room words views → get_elem? views id ≡ some v
-      → 0 < v.parts → MayFill (meaning_of rules) room v
-      → IsSound (meaning_of rules) rules room (set words full_word 1) (set views id (filled v))
+      → IsSound (meaning_of rules) rules capacity words views → get_elem? views id ≡ some v
+      → 0 < v.parts → MayFill (meaning_of rules) capacity v
+      → IsSound (meaning_of rules) rules capacity (set words full_word 1) (set views id (filled v))
   fill_keeps words views id v sound mine some_part may =
       let meaning : Meaning = meaning_of rules in
       let m : Mem = mem words in
@@ -63,16 +63,17 @@ module _ {R : Type 0} (meaning_of : R → Meaning) (rules : R) (room : ℕ) wher
       let count = sound.count in
       record {
         count = length-set words full_word 1 ∙ count;
-        by_kinds = subst (λ b. IsSoundBy meaning rules room b (set views id w)) (sym (put_full words 1 (omega arith)))
+        by_kinds = subst (λ b. IsSoundBy meaning rules capacity b (set views id w))
+            (sym (put_full words 1 (omega arith)))
             (record {
               cells = k.cells;
               blank = λ p near no_goal. let b = k.blank p near no_goal in
                   record { run = b.run; head = b.head; cost = b.cost; node = b.node; who = b.who; next = b.next };
-              rights = rights_stay room m.run m.head views id v w mine (λ _. refl) refl k.rights;
-              waits = waits_stay meaning room m.cell m.head m.next m.run views id v w mine refl k.waits;
+              rights = rights_stay capacity m.run m.head views id v w mine (λ _. refl) refl k.rights;
+              waits = waits_stay meaning capacity m.cell m.head m.next m.run views id v w mine refl k.waits;
               promises = k.promises;
-              full = λ _. fills meaning room m.cell m.head m.full v own.stays may;
-              hands = of_others_set (AreHands meaning rules room m) (AreHands meaning rules room n) views id w
+              full = λ _. fills meaning capacity m.cell m.head m.full v own.stays may;
+              hands = of_others_set (AreHands meaning rules capacity m) (AreHands meaning rules capacity n) views id w
                   (λ other u ne there h. record {
                     stays = stays_full m.cell m.head m.full u.looks h.stays;
                     absence = h.absence;
@@ -92,18 +93,18 @@ module _ {R : Type 0} (meaning_of : R → Meaning) (rules : R) (room : ℕ) wher
                     stored = own.stored;
                     ends = own.ends;
                     raised = own.raised;
-                    pends = pending_looked meaning room m.cell m.next
+                    pends = pending_looked meaning capacity m.cell m.next
                         (full_word, 1) v.looks v.rights v.pending own.pends;
                     walked = own.walked;
-                    awake = inr (awake_has rules room v some_part own.awake);
+                    awake = inr (awake_has rules capacity v some_part own.awake);
                   });
               parts = total_same (λ (h : Hands R). h.parts) views id v w mine refl ∙ k.parts;
             });
         alone = alone_set words views id full_word 1 v w mine refl sound.alone;
       }
 
-  pub fill_allowed : (slots id : ℕ) (me : Sat R) → HasPart me.0 → MayFill (meaning_of rules) room me.0
-      → Allows (Holds meaning_of rules room) slots id me full_word (λ _. 1)
+  pub fill_allowed : (slots id : ℕ) (me : Sat R) → HasPart me.0 → MayFill (meaning_of rules) capacity me.0
+      → Allows (Holds meaning_of rules capacity) slots id me full_word (λ _. 1)
       (λ _. TellsFill meaning_of (step slots full_word 1 0 none) me 1)
   fill_allowed slots id me some_part may s sound homes mine fits = (
     filled me.0,

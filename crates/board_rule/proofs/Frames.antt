@@ -14,9 +14,9 @@ use Rattle.board_rule.proofs.Lists.{some_below, total_same}
 
 module _ {R : Type 0} where
   -- a seat with a part is not spent
-  pub awake_has : (rules : R) (room : ℕ) (v : Hands R) → 0 < v.parts → IsAwake rules room v → (1 ≤ v.parts)
-      × (v.rules ≡ Some rules) × (v.room ≡ room)
-  awake_has rules room v some-part is = ⊎_elim
+  pub awake_has : (rules : R) (capacity : ℕ) (v : Hands R) → 0 < v.parts → IsAwake rules capacity v → (1 ≤ v.parts)
+      × (v.rules ≡ Some rules) × (v.capacity ≡ capacity)
+  awake_has rules capacity v some-part is = ⊎_elim
       (λ (e : v ≡ spent). absurd (omega (arith, ap (λ (h : Hands R). h.parts) e))) (λ t. t) is
 
   -- a fact of all seats holds once one of them has other hands of which it holds
@@ -50,12 +50,12 @@ module _ {R : Type 0} where
   }
 
   -- the sums over rights and done stay where the seat's stay
-  pub rights_stay : (room : ℕ) (run head : ℕ → ℕ) (views : List (Hands R)) (id : ℕ) (v w : Hands R)
+  pub rights_stay : (capacity : ℕ) (run head : ℕ → ℕ) (views : List (Hands R)) (id : ℕ) (v w : Hands R)
       → get_elem? views id ≡ some v
       → ((p : ℕ) → times (λ (r : Claimed). r.place) p w.rights ≡ times (λ (r : Claimed). r.place) p v.rights)
       → w.done ≡ v.done
-      → KeepsRights room run head views → KeepsRights room run head (set views id w)
-  rights_stay room run head views id v w mine rights done old =
+      → KeepsRights capacity run head views → KeepsRights capacity run head (set views id w)
+  rights_stay capacity run head views id v w mine rights done old =
       let h : (p : ℕ) → held (set views id w) p ≡ held views p =
       λ p. total_same (λ (u : Hands R). times (λ (r : Claimed). r.place) p u.rights) views id v w mine (rights p) in
       let d : (p : ℕ) → ended (set views id w) p ≡ ended views p =
@@ -100,12 +100,13 @@ module _ {R : Type 0} where
       (t.0, t.1, λ e. sym t.2 ∙ ap (λ (ws : List ℕ). set ws word x) e))
 
   -- the board at a step
-  pub moment_of : (meaning_of : R → Meaning) (rules : R) (room : ℕ) (words : List ℕ) (views : List (Hands R)) (id : ℕ)
+  pub moment_of : (meaning_of : R → Meaning) (rules : R) (capacity : ℕ) (words : List ℕ) (views : List (Hands R))
+      (id : ℕ)
       (v : Hands R) (word : ℕ)
-      → IsSound (meaning_of rules) rules room words views → get_elem? views id ≡ some v → 0 < v.parts
+      → IsSound (meaning_of rules) rules capacity words views → get_elem? views id ≡ some v → 0 < v.parts
       → Moment meaning_of v word (get_or words word 0)
-  moment_of meaning_of rules room words views id v word sound mine some_part =
-      let has = awake_has rules room v some_part (sound.by_kinds.hands id v mine).awake in
+  moment_of meaning_of rules capacity words views id v word sound mine some_part =
+      let has = awake_has rules capacity v some_part (sound.by_kinds.hands id v mine).awake in
       record {
         rules = rules;
         its_rules = has.1;

@@ -48,34 +48,34 @@ pub few_waiters : (l : List ℕ) (n : ℕ) → ((q : ℕ) → count q l ≤ 1) �
 few_waiters l n once within = let same = length_below l n (each_within n l within) in let most =
     below_most (λ p. count p l) n once in omega arith
 
-module _ {R : Type 0} (meaning : Meaning) (room : ℕ) (cell run head next : ℕ → ℕ) (views : List (Hands R))
-    (waits : KeepsWaits meaning room cell run head next views)
-    (c : ℕ) (near : c < room) where
+module _ {R : Type 0} (meaning : Meaning) (capacity : ℕ) (cell run head next : ℕ → ℕ) (views : List (Hands R))
+    (waits : KeepsWaits meaning capacity cell run head next views)
+    (c : ℕ) (near : c < capacity) where
   -- a waiter stands at most once in the list of a place
   listed_once : (q : ℕ) → count q (waits.lists c) ≤ 1
   listed_once q =
       let once = waits.once q in
       let few = bit_at-lt (run (q / 8)) (q % 8) in
-      let term = below_term (λ p. count q (waits.lists p)) room c near in
+      let term = below_term (λ p. count q (waits.lists p)) capacity c near in
       omega arith
 
-  listed_within : (q : ℕ) → 1 ≤ count q (waits.lists c) → q < 8 * room
+  listed_within : (q : ℕ) → 1 ≤ count q (waits.lists c) → q < 8 * capacity
   listed_within q at =
       let once = waits.once q in
-      let term = below_term (λ p. count q (waits.lists p)) room c near in
+      let term = below_term (λ p. count q (waits.lists p)) capacity c near in
       let place = waits.near q (omega arith) in
       omega arith
 
   -- the waiters of a list are those of goals of the board
-  pub waiters_within : Each (λ q. q < 8 * room) (waits.lists c)
-  waiters_within = each_within (8 * room) (waits.lists c) listed_within
+  pub waiters_within : Each (λ q. q < 8 * capacity) (waits.lists c)
+  waiters_within = each_within (8 * capacity) (waits.lists c) listed_within
 
-  pub list_length : length (waits.lists c) ≤ 8 * room
-  list_length = few_waiters (waits.lists c) (8 * room) listed_once listed_within
+  pub list_length : length (waits.lists c) ≤ 8 * capacity
+  list_length = few_waiters (waits.lists c) (8 * capacity) listed_once listed_within
 
-  pub first_within : first_of (waits.lists c) ≤ 8 * room
+  pub first_within : first_of (waits.lists c) ≤ 8 * capacity
   first_within = of (waits.lists c) listed_within
     where
-      of : (l : List ℕ) → ((q : ℕ) → 1 ≤ count q l → q < 8 * room) → first_of l ≤ 8 * room
+      of : (l : List ℕ) → ((q : ℕ) → 1 ≤ count q l → q < 8 * capacity) → first_of l ≤ 8 * capacity
       of [] within = omega arith
       of (q ∷ qs) within = let less = within q (omega (arith, counts_one q q refl)) in omega arith

@@ -25,9 +25,9 @@ use Rattle.board_rule.proofs.WaitLooks.{raised_by}
 use Rattle.board_rule.proofs.Looking.{Holds}
 
 -- words that are 0 stay so where the next word of a waiter changes
-blank_next : (meaning : Meaning) (room : ℕ) (m : Mem) (q x : ℕ) → m.run (q / 8) ≢ 0 → KeepsBlank meaning room m
-    → KeepsBlank meaning room (record m { next = put m.next q x })
-blank_next meaning room m q x runs old p near no_goal = let b = old p near no_goal in record {
+blank_next : (meaning : Meaning) (capacity : ℕ) (m : Mem) (q x : ℕ) → m.run (q / 8) ≢ 0 → KeepsBlank meaning capacity m
+    → KeepsBlank meaning capacity (record m { next = put m.next q x })
+blank_next meaning capacity m q x runs old p near no_goal = let b = old p near no_goal in record {
   run = b.run;
   head = b.head;
   cost = b.cost;
@@ -37,9 +37,9 @@ blank_next meaning room m q x runs old p near no_goal = let b = old p near no_go
       ∙ b.next c few;
 }
 
-module _ {R : Type 0} (meaning : Meaning) (room : ℕ) (m : Mem) (views : List (Hands R)) (id : ℕ) (v : Hands R)
+module _ {R : Type 0} (meaning : Meaning) (capacity : ℕ) (m : Mem) (views : List (Hands R)) (id : ℕ) (v : Hands R)
     (x : Pending) (mine : get_elem? views id ≡ some v) (is : v.pending ≡ Some x)
-    (waits : KeepsWaits meaning room m.cell m.run m.head m.next views) where
+    (waits : KeepsWaits meaning capacity m.cell m.run m.head m.next views) where
   -- the waiter stands once in the seat's hands
   in_own_hands : count x.waiter (in_hand v.pending v.walk) ≡ 1 + count x.waiter v.walk.waiters
   in_own_hands = ap (λ o. count x.waiter (in_hand o v.walk)) is ∙ omega (arith, count_one x.waiter x.waiter refl)
@@ -51,12 +51,12 @@ module _ {R : Type 0} (meaning : Meaning) (room : ℕ) (m : Mem) (views : List (
       omega (arith, in_own_hands)
 
   -- so it stands in no list
-  pub not_listed : (c : ℕ) → c < room → count x.waiter (waits.lists c) ≡ 0
+  pub not_listed : (c : ℕ) → c < capacity → count x.waiter (waits.lists c) ≡ 0
   not_listed c near =
       let once = waits.once x.waiter in
       let few = bit_at-lt (m.run (x.waiter / 8)) (x.waiter % 8) in
       let term = term_le (λ (u : Hands R). count x.waiter (in_hand u.pending u.walk)) views id v mine in
-      let listed = below_term (λ p. count x.waiter (waits.lists p)) room c near in
+      let listed = below_term (λ p. count x.waiter (waits.lists p)) capacity c near in
       omega (arith, in_own_hands)
 
   pub not_walked : count x.waiter v.walk.waiters ≡ 0
@@ -76,7 +76,7 @@ module _ {R : Type 0} (meaning : Meaning) (room : ℕ) (m : Mem) (views : List (
       there in
       omega (arith, in_own_hands)
 
-  waits_next : (to : ℕ) → KeepsWaits meaning room m.cell m.run m.head (put m.next x.waiter to) views
+  waits_next : (to : ℕ) → KeepsWaits meaning capacity m.cell m.run m.head (put m.next x.waiter to) views
   waits_next to = record {
     lists = waits.lists;
     none_left = waits.none_left;
@@ -87,19 +87,19 @@ module _ {R : Type 0} (meaning : Meaning) (room : ℕ) (m : Mem) (views : List (
     near = waits.near;
   }
 
-walked_next : (meaning : Meaning) (room : ℕ) (m : Mem) (q to : ℕ) (walk : Walk) → count q walk.waiters ≡ 0
-    → IsWalked meaning room m.cell m.head m.next walk
-    → IsWalked meaning room m.cell m.head (put m.next q to) walk
-walked_next meaning room m q to walk none_of old =
+walked_next : (meaning : Meaning) (capacity : ℕ) (m : Mem) (q to : ℕ) (walk : Walk) → count q walk.waiters ≡ 0
+    → IsWalked meaning capacity m.cell m.head m.next walk
+    → IsWalked meaning capacity m.cell m.head (put m.next q to) walk
+walked_next meaning capacity m q to walk none_of old =
     record { chained = chain_put m.next q to walk.waiters none_of old.chained; read = old.read; waited = old.waited }
 
 -- another's wait that is being put in keeps its next word
-pends_next : (meaning : Meaning) (room : ℕ) (m : Mem) (q to : ℕ) (looks : List (ℕ × ℕ)) (rights : List Claimed)
+pends_next : (meaning : Meaning) (capacity : ℕ) (m : Mem) (q to : ℕ) (looks : List (ℕ × ℕ)) (rights : List Claimed)
     (pending : Option Pending) → count q (waiting pending) ≡ 0
-    → ArePending meaning room m.cell m.next looks rights pending
-    → ArePending meaning room m.cell (put m.next q to) looks rights pending
-pends_next meaning room m q to looks rights pending none_of =
-    pending_as meaning room m.cell m.next m.cell (put m.next q to) looks looks rights rights pending
+    → ArePending meaning capacity m.cell m.next looks rights pending
+    → ArePending meaning capacity m.cell (put m.next q to) looks rights pending
+pends_next meaning capacity m q to looks rights pending none_of =
+    pending_as meaning capacity m.cell m.next m.cell (put m.next q to) looks looks rights rights pending
     (λ x is old.
     let ne : x.waiter ≢ q = λ e.
     let one : count q (waiting pending) ≡ 1 = ap (λ o. count q (waiting o)) is ∙ count_one q x.waiter (sym e) in
@@ -117,12 +117,12 @@ pends_next meaning room m q to looks rights pending none_of =
       looked = old.looked;
     })
 
-module _ {R : Type 0} (meaning_of : R → Meaning) (rules : R) (room : ℕ) where
+module _ {R : Type 0} (meaning_of : R → Meaning) (rules : R) (capacity : ℕ) where
   -- a board is sound once a seat has stored the next word of the waiter that it puts in
   link_keeps : (words : List ℕ) (views : List (Hands R)) (id : ℕ) (v : Hands R) (x : Pending) (head : ℕ)
-      → IsSound (meaning_of rules) rules room words views → get_elem? views id ≡ some v
+      → IsSound (meaning_of rules) rules capacity words views → get_elem? views id ≡ some v
       → 0 < v.parts → MayLink v x head
-      → IsSound (meaning_of rules) rules room (set words (next_word x.waiter) (head % 2 ^ 24))
+      → IsSound (meaning_of rules) rules capacity (set words (next_word x.waiter) (head % 2 ^ 24))
       (set views id (next_stored v x head))
   link_keeps words views id v x head sound mine some_part may =
       let meaning : Meaning = meaning_of rules in
@@ -134,24 +134,24 @@ module _ {R : Type 0} (meaning_of : R → Meaning) (rules : R) (room : ℕ) wher
       let k = sound.by_kinds in
       let own = k.hands id v mine in
       let total_count = sound.count in
-      let old = pending_at meaning room m.cell m.next v.looks v.rights v.pending x may.is own.pends in
+      let old = pending_at meaning capacity m.cell m.next v.looks v.rights v.pending x may.is own.pends in
       let near = old.has.near in
-      let bit = pending_waits meaning room m views id v x mine may.is k.waits in
+      let bit = pending_waits meaning capacity m views id v x mine may.is k.waits in
       record {
         count = length-set words (next_word q) to ∙ total_count;
-        by_kinds = subst (λ k. IsSoundBy meaning rules room k (set views id w))
+        by_kinds = subst (λ k. IsSoundBy meaning rules capacity k (set views id w))
             (sym (put_next words q to (omega arith))) (record {
               cells = k.cells;
-              blank = blank_next meaning room m q to (bit_runs (m.run (q / 8)) (q % 8) bit) k.blank;
-              rights = rights_stay room m.run m.head views id v w mine (λ p. refl) refl k.rights;
-              waits = waits_stay meaning room m.cell m.head n.next m.run views id v w mine
+              blank = blank_next meaning capacity m q to (bit_runs (m.run (q / 8)) (q % 8) bit) k.blank;
+              rights = rights_stay capacity m.run m.head views id v w mine (λ p. refl) refl k.rights;
+              waits = waits_stay meaning capacity m.cell m.head n.next m.run views id v w mine
                   (ap (λ o. in_hand o v.walk) (sym may.is))
-                  (waits_next meaning room m views id v x mine may.is k.waits to);
+                  (waits_next meaning capacity m views id v x mine may.is k.waits to);
               promises = k.promises;
               full = k.full;
-              hands = of_others_set (AreHands meaning rules room m) (AreHands meaning rules room n) views id w
+              hands = of_others_set (AreHands meaning rules capacity m) (AreHands meaning rules capacity n) views id w
                   (λ other u ne there h.
-                  let none_of = not_handed meaning room m views id v x mine may.is k.waits other u ne there in
+                  let none_of = not_handed meaning capacity m views id v x mine may.is k.waits other u ne there in
                   let parts = hand_parts q u.pending u.walk in
                   record {
                     stays = h.stays;
@@ -160,8 +160,8 @@ module _ {R : Type 0} (meaning_of : R → Meaning) (rules : R) (room : ℕ) wher
                     stored = h.stored;
                     ends = h.ends;
                     raised = h.raised;
-                    pends = pends_next meaning room m q to u.looks u.rights u.pending (omega arith) h.pends;
-                    walked = walked_next meaning room m q to u.walk (omega arith) h.walked;
+                    pends = pends_next meaning capacity m q to u.looks u.rights u.pending (omega arith) h.pends;
+                    walked = walked_next meaning capacity m q to u.walk (omega arith) h.walked;
                     awake = h.awake;
                   })
                   k.hands
@@ -187,9 +187,9 @@ module _ {R : Type 0} (meaning_of : R → Meaning) (rules : R) (room : ℕ) wher
                           };
                       looked = old.looked;
                     };
-                    walked = walked_next meaning room m q to v.walk
-                        (not_walked meaning room m views id v x mine may.is k.waits) own.walked;
-                    awake = inr (awake_has rules room v some_part own.awake);
+                    walked = walked_next meaning capacity m q to v.walk
+                        (not_walked meaning capacity m views id v x mine may.is k.waits) own.walked;
+                    awake = inr (awake_has rules capacity v some_part own.awake);
                   });
               parts = total_same (λ (h : Hands R). h.parts) views id v w mine refl ∙ k.parts;
             });
@@ -197,7 +197,7 @@ module _ {R : Type 0} (meaning_of : R → Meaning) (rules : R) (room : ℕ) wher
       }
 
   link_at : (slots id : ℕ) (me : Sat R) (x : Pending) (head : ℕ) → 0 < me.0.parts → MayLink me.0 x head
-      → Allows (Holds meaning_of rules room) slots id me (next_word x.waiter) (λ _. head % 2 ^ 24)
+      → Allows (Holds meaning_of rules capacity) slots id me (next_word x.waiter) (λ _. head % 2 ^ 24)
       (λ _. TellsStoreNext meaning_of (step slots (next_word x.waiter) (head % 2 ^ 24) 0 none) me (head % 2 ^ 24))
   link_at slots id me x head some_part may s sound homes mine fits = (
     next_stored me.0 x head,
@@ -214,11 +214,11 @@ module _ {R : Type 0} (meaning_of : R → Meaning) (rules : R) (room : ℕ) wher
 
   pub link_allowed : (slots id : ℕ) (me : Sat R) (i : ℕ) (x : Pending) (head to : ℕ) → i ≡ next_word x.waiter
       → to ≡ head % 2 ^ 24 → HasPart me.0 → MayLink me.0 x head
-      → Allows (Holds meaning_of rules room) slots id me i (λ _. to)
+      → Allows (Holds meaning_of rules capacity) slots id me i (λ _. to)
       (λ _. TellsStoreNext meaning_of (step slots i to 0 none) me to)
   link_allowed slots id me i x head to is value some_part may =
-      subst (λ j. Allows (Holds meaning_of rules room) slots id me j (λ _. to)
+      subst (λ j. Allows (Holds meaning_of rules capacity) slots id me j (λ _. to)
       (λ _. TellsStoreNext meaning_of (step slots j to 0 none) me to)) (sym is)
-      (subst (λ y. Allows (Holds meaning_of rules room) slots id me (next_word x.waiter) (λ _. y)
+      (subst (λ y. Allows (Holds meaning_of rules capacity) slots id me (next_word x.waiter) (λ _. y)
       (λ _. TellsStoreNext meaning_of (step slots (next_word x.waiter) y 0 none) me y)) (sym value)
       (link_at slots id me x head some_part may))

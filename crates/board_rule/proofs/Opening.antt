@@ -29,8 +29,9 @@ only_of a b zero e = some-injective a b e
 only_of a b (suc j) e = absurd (some-ne-none b (sym e))
 
 -- a seat that walks no list
-pub walks_none : (meaning : Meaning) (room : ℕ) (cell head next : ℕ → ℕ) → IsWalked meaning room cell head next no_walk
-walks_none meaning room cell head next =
+pub walks_none : (meaning : Meaning) (capacity : ℕ) (cell head next : ℕ → ℕ)
+    → IsWalked meaning capacity cell head next no_walk
+walks_none meaning capacity cell head next =
     record { chained = tt; read = λ found is. let no : ⊥ = cc in absurd no; waited = tt }
 
 module _ {R : Type 0} where
@@ -46,9 +47,9 @@ module _ {R : Type 0} where
     walk = no_walk;
   }
 
-  pub hands_of_nothing : (meaning : Meaning) (rules : R) (room : ℕ) (m : Mem) (v : Hands R)
-      → IsAwake rules room (with_nothing v) → AreHands meaning rules room m (with_nothing v)
-  hands_of_nothing meaning rules room m v awake = record {
+  pub hands_of_nothing : (meaning : Meaning) (rules : R) (capacity : ℕ) (m : Mem) (v : Hands R)
+      → IsAwake rules capacity (with_nothing v) → AreHands meaning rules capacity m (with_nothing v)
+  hands_of_nothing meaning rules capacity m v awake = record {
     stays = record {
       cells = λ p found at. absurd at;
       heads = λ p found at. absurd at;
@@ -60,23 +61,24 @@ module _ {R : Type 0} where
     ends = λ p. refl;
     raised = tt;
     pends = tt;
-    walked = walks_none meaning room m.cell m.head m.next;
+    walked = walks_none meaning capacity m.cell m.head m.next;
     awake = awake;
   }
 
-module _ {R : Type 0} (meaning_of : R → Meaning) (rules : R) (room : ℕ) where
+module _ {R : Type 0} (meaning_of : R → Meaning) (rules : R) (capacity : ℕ) where
   -- at the start all words are 0, and one seat has all parts
-  pub start_sound : Holds meaning_of rules room (opening (replicate (14 * room + 1) 0) [] (opening_hands rules room))
+  pub start_sound : Holds meaning_of rules capacity (opening (replicate (14 * capacity + 1) 0) []
+      (opening_hands rules capacity))
   start_sound =
-      let words : List ℕ = replicate (14 * room + 1) 0 in
-      let v : Hands R = opening_hands rules room in
-      let z : (i : ℕ) → get_or words i 0 ≡ 0 = zeros (14 * room + 1) in
+      let words : List ℕ = replicate (14 * capacity + 1) 0 in
+      let v : Hands R = opening_hands rules capacity in
+      let z : (i : ℕ) → get_or words i 0 ≡ 0 = zeros (14 * capacity + 1) in
       record {
-        count = length-replicate (14 * room + 1) 0;
+        count = length-replicate (14 * capacity + 1) 0;
         by_kinds = record {
           cells = record {
             enter = λ p near taken. absurd (taken (z (cell_word p)));
-            are_set = empty_is_set room (mem words).cell (λ p _. z (cell_word p));
+            are_set = empty_is_set capacity (mem words).cell (λ p _. z (cell_word p));
           };
           blank = λ p near _. record { run = z _; head = z _; cost = z _; node = z _; who = z _; next = λ b _. z _ };
           rights = λ p near. record {
@@ -93,7 +95,7 @@ module _ {R : Type 0} (meaning_of : R → Meaning) (rules : R) (room : ℕ) wher
             heads = λ c near is_open. z (head_word c);
             chains = λ c near. tt;
             joined = λ c near. tt;
-            once = λ q. let none_listed = below_none (λ c. count q []) room (λ p near. refl) in
+            once = λ q. let none_listed = below_none (λ c. count q []) capacity (λ p near. refl) in
                 omega (arith, none_listed) ∙ sym (ap (λ n. bit_at n (q % 8)) (z (run_word (q / 8)))
                 ∙ bit_at-zero (q % 8));
             near = λ q set_bit. let e : wait_bit (mem words).run q ≡ 0 =
@@ -104,8 +106,8 @@ module _ {R : Type 0} (meaning_of : R → Meaning) (rules : R) (room : ℕ) wher
             answer = λ p near closed. let e : (mem words).head p ≡ 0 = z _ in absurd (omega arith);
           };
           full = λ set_full. absurd (set_full (z full_word));
-          hands = λ id u there. subst (AreHands (meaning_of rules) rules room (mem words)) (only_of v u id there)
-              (hands_of_nothing (meaning_of rules) rules room (mem words) v (inr (omega arith, refl, refl)));
+          hands = λ id u there. subst (AreHands (meaning_of rules) rules capacity (mem words)) (only_of v u id there)
+              (hands_of_nothing (meaning_of rules) rules capacity (mem words) v (inr (omega arith, refl, refl)));
           parts = refl;
         };
         alone = λ id u there. subst (KeepsAlone words (v ∷ [])) (only_of v u id there)

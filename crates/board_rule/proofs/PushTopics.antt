@@ -18,7 +18,7 @@ use Rattle.board_rule.proofs.Chains.{later_then}
 use Rattle.board_rule.proofs.AnswerWords.{each_map, each_both}
 use Rattle.board_rule.proofs.Raised.{count_none, waits_each}
 
-module _ (meaning : Meaning) (room : ℕ) (m : Mem) (c to : ℕ) (was_open : m.head c < 2 ^ 63) (is_open : to < 2 ^ 63)
+module _ (meaning : Meaning) (capacity : ℕ) (m : Mem) (c to : ℕ) (was_open : m.head c < 2 ^ 63) (is_open : to < 2 ^ 63)
   where
     -- closed heads are those that were closed
     closed_before : (p : ℕ) → 2 ^ 63 ≤ put m.head c to p → 2 ^ 63 ≤ m.head p
@@ -29,24 +29,25 @@ module _ (meaning : Meaning) (room : ℕ) (m : Mem) (c to : ℕ) (was_open : m.h
     closed_still p closed = put_cases m.head c to p (λ x. 2 ^ 63 ≤ x) (λ e. let lt =
         subst (λ q. m.head q < 2 ^ 63) (sym e) was_open in absurd (omega arith)) (λ _. closed)
 
-    promised_push : (goal : ℕ) → IsPromised meaning room m.cell m.head goal
-        → IsPromised meaning room m.cell (put m.head c to) goal
+    promised_push : (goal : ℕ) → IsPromised meaning capacity m.cell m.head goal
+        → IsPromised meaning capacity m.cell (put m.head c to) goal
     promised_push goal old = record {
       children = λ child is. let t = old.children child is in (t.0, t.1, t.2, t.3, closed_still t.0 t.4);
       asked = old.asked;
     }
 
-    pub promises_push : KeepsPromises meaning room m.cell m.head m.cost m.node
-        → KeepsPromises meaning room m.cell (put m.head c to) m.cost m.node
+    pub promises_push : KeepsPromises meaning capacity m.cell m.head m.cost m.node
+        → KeepsPromises meaning capacity m.cell (put m.head c to) m.cost m.node
     promises_push old = record {
       promise = λ p near closed. promised_push (m.cell p) (old.promise p near (closed_before p closed));
       answer = λ p near closed. old.answer p near (closed_before p closed);
     }
 
-    pub recorded_push : (done : List Ended) → Each (IsRecorded room m.head m.cost m.node m.who) done
-        → Each (IsRecorded room (put m.head c to) m.cost m.node m.who) done
+    pub recorded_push : (done : List Ended) → Each (IsRecorded capacity m.head m.cost m.node m.who) done
+        → Each (IsRecorded capacity (put m.head c to) m.cost m.node m.who) done
     recorded_push =
-        each_as (IsRecorded room m.head m.cost m.node m.who) (IsRecorded room (put m.head c to) m.cost m.node m.who)
+        each_as (IsRecorded capacity m.head m.cost m.node m.who)
+        (IsRecorded capacity (put m.head c to) m.cost m.node m.who)
         (λ e old. record {
           near = old.near;
           closed = closed_still e.place old.closed;
@@ -56,13 +57,13 @@ module _ (meaning : Meaning) (room : ℕ) (m : Mem) (c to : ℕ) (was_open : m.h
           few = old.few;
         })
 
-    pub walked_push : (walk : Walk) → IsWalked meaning room m.cell m.head m.next walk
-        → IsWalked meaning room m.cell (put m.head c to) m.next walk
+    pub walked_push : (walk : Walk) → IsWalked meaning capacity m.cell m.head m.next walk
+        → IsWalked meaning capacity m.cell (put m.head c to) m.next walk
     walked_push walk old = record {
       chained = old.chained;
       read = old.read;
-      waited = each_as (WaitedFor meaning room m.cell m.head walk.child)
-          (WaitedFor meaning room m.cell (put m.head c to) walk.child)
+      waited = each_as (WaitedFor meaning capacity m.cell m.head walk.child)
+          (WaitedFor meaning capacity m.cell (put m.head c to) walk.child)
           (λ q was. record { near = was.near; closed = closed_still walk.child was.closed; is_child = was.is_child })
           walk.waiters old.waited;
     }
@@ -78,11 +79,11 @@ module _ (meaning : Meaning) (room : ℕ) (m : Mem) (c to : ℕ) (was_open : m.h
       set_full = old.set_full;
     }
 
-    pub blank_push : HoldsGoal meaning room m.cell c → KeepsBlank meaning room m
-        → KeepsBlank meaning room (record m { head = put m.head c to })
+    pub blank_push : HoldsGoal meaning capacity m.cell c → KeepsBlank meaning capacity m
+        → KeepsBlank meaning capacity (record m { head = put m.head c to })
     blank_push holds old p near no_goal = let b = old p near no_goal in record {
       run = b.run;
-      head = put_else m.head c to p (λ e. no_goal (subst (HoldsGoal meaning room m.cell) (sym e) holds)) ∙ b.head;
+      head = put_else m.head c to p (λ e. no_goal (subst (HoldsGoal meaning capacity m.cell) (sym e) holds)) ∙ b.head;
       cost = b.cost;
       node = b.node;
       who = b.who;
@@ -90,16 +91,16 @@ module _ (meaning : Meaning) (room : ℕ) (m : Mem) (c to : ℕ) (was_open : m.h
     }
 
     pub rights_push : {R : Type 0} (views : List (Hands R)) (id : ℕ) (v w : Hands R) → get_elem? views id ≡ some v
-        → c < room
+        → c < capacity
         → ((p : ℕ) → rights_at p w.rights ≡ rights_at p v.rights) → w.done ≡ v.done
-        → KeepsRights room m.run m.head views → KeepsRights room m.run (put m.head c to) (set views id w)
+        → KeepsRights capacity m.run m.head views → KeepsRights capacity m.run (put m.head c to) (set views id w)
     rights_push views id v w mine near rights done old =
         let was = old c near in
         let h : held (set views id w) c ≡ held views c =
         total_same (λ (u : Hands _). rights_at c u.rights) views id v w mine (rights c) in
         let d : ended (set views id w) c ≡ ended views c =
         total_same (λ (u : Hands _). done_at c u.done) views id v w mine (ap (done_at c) done) in
-        rights_moved views id v w mine room m.run m.head m.run (put m.head c to) c
+        rights_moved views id v w mine capacity m.run m.head m.run (put m.head c to) c
         (λ p _. rights p) (λ p _. ap (done_at p) done) (λ _ _. refl) (λ p ne. put_else m.head c to p ne)
         (record {
           once = omega (arith, h, d, was.once);

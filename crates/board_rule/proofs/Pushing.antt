@@ -37,33 +37,33 @@ head_parts : (l : List ℕ) (h : ℕ) → h ≡ head_of l → first_of l < 2 ^ 2
 head_parts l h is few = (omega arith, omega arith)
 
 -- the waiter goes from the seat's hands to the list of the child
-waits_push : {R : Type 0} (meaning : Meaning) (room : ℕ) (m : Mem) (views : List (Hands R)) (id : ℕ) (v w : Hands R)
-    (c q to : ℕ) (old : KeepsWaits meaning room m.cell m.run m.head m.next views)
-    → get_elem? views id ≡ some v → c < room → m.head c < 2 ^ 63 → to < 2 ^ 63 → to ≡ head_of (q ∷ old.lists c)
+waits_push : {R : Type 0} (meaning : Meaning) (capacity : ℕ) (m : Mem) (views : List (Hands R)) (id : ℕ) (v w : Hands R)
+    (c q to : ℕ) (old : KeepsWaits meaning capacity m.cell m.run m.head m.next views)
+    → get_elem? views id ≡ some v → c < capacity → m.head c < 2 ^ 63 → to < 2 ^ 63 → to ≡ head_of (q ∷ old.lists c)
     → m.next q ≡ first_of (old.lists c) → meaning.child (m.cell (q / 8)) (m.cell c)
     → ((p : ℕ) → count p (in_hand v.pending v.walk) ≡ count p (q ∷ []) + count p (in_hand w.pending w.walk))
-    → KeepsWaits meaning room m.cell m.run (put m.head c to) m.next (set views id w)
-waits_push meaning room m views id v w c q to old mine near was_open is_open head links is_child one_less = record {
+    → KeepsWaits meaning capacity m.cell m.run (put m.head c to) m.next (set views id w)
+waits_push meaning capacity m views id v w c q to old mine near was_open is_open head links is_child one_less = record {
   lists = put_list old.lists c (q ∷ old.lists c);
-  none_left = λ p in_room. put_cases m.head c to p (λ x. 2 ^ 63 ≤ x → put_list old.lists c (q ∷ old.lists c) p ≡ [])
+  none_left = λ p in_range. put_cases m.head c to p (λ x. 2 ^ 63 ≤ x → put_list old.lists c (q ∷ old.lists c) p ≡ [])
       (λ _ closed. absurd (omega arith))
       (λ ne closed. put_list_cases old.lists c (q ∷ old.lists c) p (λ l. l ≡ []) (λ e. absurd (ne e))
-      (λ _. old.none_left p in_room closed));
-  heads = λ p in_room. put_cases m.head c to p (λ x. x < 2 ^ 63
+      (λ _. old.none_left p in_range closed));
+  heads = λ p in_range. put_cases m.head c to p (λ x. x < 2 ^ 63
       → x ≡ head_of (put_list old.lists c (q ∷ old.lists c) p))
       (λ here _. put_list_cases old.lists c (q ∷ old.lists c) p (λ l. to ≡ head_of l) (λ _. head)
       (λ ne. absurd (ne here)))
       (λ ne still_open. put_list_cases old.lists c (q ∷ old.lists c) p (λ l. m.head p ≡ head_of l) (λ e. absurd (ne e))
-      (λ _. old.heads p in_room still_open));
-  chains = λ p in_room. put_list_cases old.lists c (q ∷ old.lists c) p (IsChain m.next)
-      (λ _. (links, old.chains c near)) (λ _. old.chains p in_room);
-  joined = λ p in_room. put_list_cases old.lists c (q ∷ old.lists c) p
+      (λ _. old.heads p in_range still_open));
+  chains = λ p in_range. put_list_cases old.lists c (q ∷ old.lists c) p (IsChain m.next)
+      (λ _. (links, old.chains c near)) (λ _. old.chains p in_range);
+  joined = λ p in_range. put_list_cases old.lists c (q ∷ old.lists c) p
       (Each (λ a. meaning.child (m.cell (a / 8)) (m.cell p)))
       (λ here. subst (λ k. Each (λ a. meaning.child (m.cell (a / 8)) (m.cell k)) (q ∷ old.lists c)) (sym here)
       (is_child, old.joined c near))
-      (λ _. old.joined p in_room);
+      (λ _. old.joined p in_range);
   once = λ p.
-      let lists = below_put_list old.lists room c (q ∷ old.lists c) p near in
+      let lists = below_put_list old.lists capacity c (q ∷ old.lists c) p near in
       let hands = total-set (λ (u : Hands _). count p (in_hand u.pending u.walk)) views id v w mine in
       let once = old.once p in
       let less = one_less p in
@@ -71,12 +71,12 @@ waits_push meaning room m views id v w c q to old mine near was_open is_open hea
   near = old.near;
 }
 
-module _ {R : Type 0} (meaning_of : R → Meaning) (rules : R) (room : ℕ) where
+module _ {R : Type 0} (meaning_of : R → Meaning) (rules : R) (capacity : ℕ) where
   -- a board is sound once a seat has put a waiter first into a list
   push_keeps : (words : List ℕ) (views : List (Hands R)) (id : ℕ) (v : Hands R) (x : Pending) (head : ℕ)
-      → IsSound (meaning_of rules) rules room words views → get_elem? views id ≡ some v
-      → 0 < v.parts → MayPush room v x head → get_or words (head_word x.child) 0 ≡ head
-      → IsSound (meaning_of rules) rules room (set words (head_word x.child) (pushed head x.waiter))
+      → IsSound (meaning_of rules) rules capacity words views → get_elem? views id ≡ some v
+      → 0 < v.parts → MayPush capacity v x head → get_or words (head_word x.child) 0 ≡ head
+      → IsSound (meaning_of rules) rules capacity (set words (head_word x.child) (pushed head x.waiter))
       (set views id (wait_put v x head))
   push_keeps words views id v x head sound mine some_part may found =
       let small = may.small in
@@ -90,62 +90,63 @@ module _ {R : Type 0} (meaning_of : R → Meaning) (rules : R) (room : ℕ) wher
       let k = sound.by_kinds in
       let own = k.hands id v mine in
       let total_count = sound.count in
-      let old = pending_at meaning room m.cell m.next v.looks v.rights v.pending x may.is own.pends in
+      let old = pending_at meaning capacity m.cell m.next v.looks v.rights v.pending x may.is own.pends in
       let seen = old.seen head may.seen in
       let near = seen.near in
       let head_open = seen.was_open may.linked in
       let was_open : m.head c < 2 ^ 63 = subst (λ y. y < 2 ^ 63) (sym found) head_open in
       let lists : ℕ → List ℕ = k.waits.lists in
       let is_head : head ≡ head_of (lists c) = sym found ∙ k.waits.heads c near was_open in
-      let long = list_length meaning room m.cell m.run m.head m.next views k.waits c near in
-      let first = first_within meaning room m.cell m.run m.head m.next views k.waits c near in
+      let long = list_length meaning capacity m.cell m.run m.head m.next views k.waits c near in
+      let first = first_within meaning capacity m.cell m.run m.head m.next views k.waits c near in
       let parts = head_parts (lists c) head is_head (omega arith) in
       let its_place = old.has.near in
       let is_open : to < 2 ^ 63 = omega (arith, parts.0) in
       let counts = times_map (more_waits (q / 8)) (same_place (q / 8)) in
-      let is = held_by room m.run m.head views id v (q / 8) mine old.has k.rights in
+      let is = held_by capacity m.run m.head views id v (q / 8) mine old.has k.rights in
       let more : m.head c / 2 ^ 24 < to / 2 ^ 24 = omega (arith, ap (λ y. y / 2 ^ 24) found) in
       let less : (p : ℕ) → count p (in_hand v.pending v.walk) ≡ count p (q ∷ []) + count p (in_hand w.pending w.walk) =
       λ p. ap (λ o. count p (in_hand o v.walk)) may.is ∙ omega arith in
       record {
         count = length-set words (head_word c) to ∙ total_count;
-        by_kinds = subst (λ k. IsSoundBy meaning rules room k (set views id w))
+        by_kinds = subst (λ k. IsSoundBy meaning rules capacity k (set views id w))
             (sym (put_head words c to (omega arith))) (record {
               cells = k.cells;
-              blank = blank_push meaning room m c to was_open is_open seen.child_goal k.blank;
-              rights = rights_push meaning room m c to was_open is_open views id v w mine near
+              blank = blank_push meaning capacity m c to was_open is_open seen.child_goal k.blank;
+              rights = rights_push meaning capacity m c to was_open is_open views id v w mine near
                   (λ p. counts p v.rights) refl
                   k.rights;
-              waits = waits_push meaning room m views id v w c q to k.waits mine near was_open is_open
+              waits = waits_push meaning capacity m views id v w c q to k.waits mine near was_open is_open
                   (omega (arith, parts.0)) (seen.links may.linked ∙ parts.1) seen.is_child less;
-              promises = promises_push meaning room m c to was_open is_open k.promises;
+              promises = promises_push meaning capacity m c to was_open is_open k.promises;
               full = k.full;
-              hands = of_others_set (AreHands meaning rules room m) (AreHands meaning rules room n) views id w
+              hands = of_others_set (AreHands meaning rules capacity m) (AreHands meaning rules capacity n) views id w
                   (λ other u ne there h. record {
-                    stays = stays_push meaning room m c to was_open is_open more u.looks h.stays;
+                    stays = stays_push meaning capacity m c to was_open is_open more u.looks h.stays;
                     absence = h.absence;
-                    recorded = recorded_push meaning room m c to was_open is_open u.done h.recorded;
+                    recorded = recorded_push meaning capacity m c to was_open is_open u.done h.recorded;
                     stored = h.stored;
                     ends = h.ends;
                     raised = h.raised;
                     pends = h.pends;
-                    walked = walked_push meaning room m c to was_open is_open u.walk h.walked;
+                    walked = walked_push meaning capacity m c to was_open is_open u.walk h.walked;
                     awake = h.awake;
                   })
                   k.hands
                   (record {
                     stays = stays_pushed m c head to v.looks head_open
                         (subst (λ y. y / 2 ^ 24 < to / 2 ^ 24) found more)
-                        (stays_push meaning room m c to was_open is_open more v.looks own.stays);
-                    absence = absence_beside meaning room v.looks (head_word c) head (λ p e. omega arith) own.absence;
-                    recorded = recorded_push meaning room m c to was_open is_open v.done own.recorded;
+                        (stays_push meaning capacity m c to was_open is_open more v.looks own.stays);
+                    absence = absence_beside meaning capacity v.looks (head_word c) head (λ p e. omega arith)
+                        own.absence;
+                    recorded = recorded_push meaning capacity m c to was_open is_open v.done own.recorded;
                     stored = stored_push m.cost m.node m.who (q / 8) v.rights own.stored;
                     ends = λ p. omega (arith, own.ends p, counts p v.rights);
                     raised = raised_push m.run x v.rights (omega (arith, is.right_once)) old.its_wait
                         (subst (λ o. Each (IsRaised m.run o) v.rights) may.is own.raised);
                     pends = tt;
-                    walked = walked_push meaning room m c to was_open is_open v.walk own.walked;
-                    awake = inr (awake_has rules room v some_part own.awake);
+                    walked = walked_push meaning capacity m c to was_open is_open v.walk own.walked;
+                    awake = inr (awake_has rules capacity v some_part own.awake);
                   });
               parts = total_same (λ (h : Hands R). h.parts) views id v w mine refl ∙ k.parts;
             });
@@ -169,11 +170,11 @@ module _ {R : Type 0} (meaning_of : R → Meaning) (rules : R) (room : ℕ) wher
   -- what is known of the wait where the head had changed
   pends_missed : (m : Mem) (looks : List (ℕ × ℕ)) (rights : List Claimed) (pending : Option Pending) (x : Pending)
       (head found : ℕ) → pending ≡ Some x → x.seen ≡ Some head
-      → ArePending (meaning_of rules) room m.cell m.next looks rights pending
-      → ArePending (meaning_of rules) room m.cell m.next ((head_word x.child, found) ∷ looks) rights
+      → ArePending (meaning_of rules) capacity m.cell m.next looks rights pending
+      → ArePending (meaning_of rules) capacity m.cell m.next ((head_word x.child, found) ∷ looks) rights
       (Some (record { waiter = x.waiter; child = x.child; seen = Some found; linked = false }))
   pends_missed m looks rights pending x head found is was_seen all =
-      let old = pending_at (meaning_of rules) room m.cell m.next looks rights pending x is all in
+      let old = pending_at (meaning_of rules) capacity m.cell m.next looks rights pending x is all in
       let s = old.seen head was_seen in
       record {
         has = old.has;
@@ -188,8 +189,8 @@ module _ {R : Type 0} (meaning_of : R → Meaning) (rules : R) (room : ℕ) wher
         looked = λ h at. inl (refl, cc);
       }
 
-  push_at : (slots id : ℕ) (me : Sat R) (x : Pending) (head : ℕ) → 0 < me.0.parts → MayPush room me.0 x head
-      → Allows (Holds meaning_of rules room) slots id me (head_word x.child)
+  push_at : (slots id : ℕ) (me : Sat R) (x : Pending) (head : ℕ) → 0 < me.0.parts → MayPush capacity me.0 x head
+      → Allows (Holds meaning_of rules capacity) slots id me (head_word x.child)
       (λ n. either (eqb n head) (pushed head x.waiter) n)
       (TellsPutWait meaning_of (step slots (head_word x.child) head (pushed head x.waiter) none) me)
   push_at slots id me x head some_part may s sound homes mine fits =
@@ -198,8 +199,8 @@ module _ {R : Type 0} (meaning_of : R → Meaning) (rules : R) (room : ℕ) wher
       let found : ℕ = get_or s.words i 0 in
       let v : Hands R = me.0 in
       let own = sound.by_kinds.hands id v mine in
-      let moment = moment_of meaning_of rules room s.words s.views id v i sound mine some_part in
-      exchanged found head to (Leads meaning_of rules room s i id me
+      let moment = moment_of meaning_of rules capacity s.words s.views id v i sound mine some_part in
+      exchanged found head to (Leads meaning_of rules capacity s i id me
       (TellsPutWait meaning_of (step slots i head to none) me))
       (λ hit. (
         wait_put v x head,
@@ -208,31 +209,40 @@ module _ {R : Type 0} (meaning_of : R → Meaning) (rules : R) (room : ℕ) wher
         push_keeps s.words s.views id v x head sound mine some_part may hit,
         λ y is seen. let one : Some x ≡ Some y = sym may.is ∙ is in let e : x ≡ y = cc in
             subst (λ z. Tells meaning_of (PushesWait meaning_of v z head found) me (wait_put v x head, me.1)) e
-            (record { hands = record { hit = λ _. refl; miss = λ miss. absurd (miss hit); moment = moment }; slots = refl }),
+            (record {
+              hands = record { hit = λ _. refl; miss = λ miss. absurd (miss hit); moment = moment };
+              slots = refl;
+            }),
       ))
       (λ miss. (
         head_seen v x x.child found,
         keeps,
         tt,
-        subst (λ (ws : List ℕ). IsSound (meaning_of rules) rules room ws (set s.views id (head_seen v x x.child found)))
+        subst (λ (ws : List ℕ). IsSound (meaning_of rules) rules capacity ws
+            (set s.views id (head_seen v x x.child found)))
             (sym (set-get_or s.words i 0))
-            (wait_look_keeps meaning_of rules room s.words s.views id v i
+            (wait_look_keeps meaning_of rules capacity s.words s.views id v i
             (Some (record { waiter = x.waiter; child = x.child; seen = Some found; linked = false })) v.walk sound
             mine some_part
             (sym (ap waiting may.is)) refl (pends_missed (mem s.words) v.looks v.rights v.pending x head found may.is
             may.seen own.pends) own.walked),
         λ y is seen. let one : Some x ≡ Some y = sym may.is ∙ is in let e : x ≡ y = cc in
-            subst (λ z. Tells meaning_of (PushesWait meaning_of v z head found) me (head_seen v x x.child found, me.1)) e
-            (record { hands = record { hit = λ hit. absurd (miss hit); miss = λ _. refl; moment = moment }; slots = refl }),
+            subst (λ z. Tells meaning_of (PushesWait meaning_of v z head found) me
+            (head_seen v x x.child found, me.1)) e
+            (record {
+              hands = record { hit = λ hit. absurd (miss hit); miss = λ _. refl; moment = moment };
+              slots = refl;
+            }),
       ))
 
   pub push_allowed : (slots id : ℕ) (me : Sat R) (i : ℕ) (x : Pending) (head to : ℕ) → i ≡ head_word x.child
-      → to ≡ pushed head x.waiter → HasPart me.0 → MayPush room me.0 x head
-      → Allows (Holds meaning_of rules room) slots id me i (λ n. either (eqb n head) to n)
+      → to ≡ pushed head x.waiter → HasPart me.0 → MayPush capacity me.0 x head
+      → Allows (Holds meaning_of rules capacity) slots id me i (λ n. either (eqb n head) to n)
       (TellsPutWait meaning_of (step slots i head to none) me)
   push_allowed slots id me i x head to is value some_part may =
-      subst (λ j. Allows (Holds meaning_of rules room) slots id me j (λ n. either (eqb n head) to n)
+      subst (λ j. Allows (Holds meaning_of rules capacity) slots id me j (λ n. either (eqb n head) to n)
       (TellsPutWait meaning_of (step slots j head to none) me)) (sym is)
-      (subst (λ y. Allows (Holds meaning_of rules room) slots id me (head_word x.child) (λ n. either (eqb n head) y n)
+      (subst (λ y. Allows (Holds meaning_of rules capacity) slots id me (head_word x.child)
+      (λ n. either (eqb n head) y n)
       (TellsPutWait meaning_of (step slots (head_word x.child) head y none) me)) (sym value)
       (push_at slots id me x head some_part may))

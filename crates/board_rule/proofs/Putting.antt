@@ -27,49 +27,52 @@ use Rattle.board_rule.proofs.Truths.{saw_passes, forgets_none}
 use Rattle.board_rule.proofs.Looking.{Holds, look_keeps}
 
 -- what a word in an empty cell leaves of each topic
-module _ (meaning : Meaning) (room : ℕ) (m : Mem) (place word : ℕ) (empty : m.cell place ≡ 0) where
+module _ (meaning : Meaning) (capacity : ℕ) (m : Mem) (place word : ℕ) (empty : m.cell place ≡ 0) where
   -- a taken cell stays as it is
   taken_stays : (p x : ℕ) → x ≢ 0 → m.cell p ≡ x → put m.cell place word p ≡ x
   taken_stays p x taken is = put_cases m.cell place word p (λ y. y ≡ x)
       (λ here. absurd (taken (sym is ∙ ap m.cell here ∙ empty))) (λ _. is)
 
-  cells_put : {R : Type 0} → AreCells meaning room m.cell → (v : Hands R) → Stays m.cell m.head m.full v.looks
-      → KeepsPromises meaning room m.cell m.head m.cost m.node
-      → MayPut meaning room v place word → AreCells meaning room (put m.cell place word)
+  cells_put : {R : Type 0} → AreCells meaning capacity m.cell → (v : Hands R) → Stays m.cell m.head m.full v.looks
+      → KeepsPromises meaning capacity m.cell m.head m.cost m.node
+      → MayPut meaning capacity v place word → AreCells meaning capacity (put m.cell place word)
   cells_put cells v stays promises may = record {
     enter = λ p near. put_cases m.cell place word p (λ x. x ≢ 0 → meaning.entry x) (λ _ _. may.enters)
         (λ _. cells.enter p near);
-    are_set = put_keeps_set room m.cell (put m.cell place word) word place cells.are_set may.is_word may.near empty
-        (saw_passes meaning room m promises v.looks stays word (steps_to room (home_of word room) place) may.passed)
+    are_set = put_keeps_set capacity m.cell (put m.cell place word) word place cells.are_set may.is_word may.near empty
+        (saw_passes meaning capacity m promises v.looks stays word (steps_to capacity (home_of word capacity) place)
+        may.passed)
         (record { here = put_here m.cell place word; others = λ p ne. put_else m.cell place word p ne });
   }
 
   -- no goal stood in the cell
-  was_no_goal : (p : ℕ) → (HoldsGoal meaning room (put m.cell place word) p → ⊥) → HoldsGoal meaning room m.cell p → ⊥
+  was_no_goal : (p : ℕ) → (HoldsGoal meaning capacity (put m.cell place word) p → ⊥)
+      → HoldsGoal meaning capacity m.cell p → ⊥
   was_no_goal p no_goal is =
       ⊎_elim (λ here. is.0 (ap m.cell here ∙ empty))
       (λ else. no_goal (subst (λ x. (x ≢ 0) × IsTrue (meaning.goal x)) (sym (put_else m.cell place word p else))
       is)) (cases_eq p place)
 
-  blank_put : KeepsBlank meaning room m → KeepsBlank meaning room (record m { cell = put m.cell place word })
+  blank_put : KeepsBlank meaning capacity m → KeepsBlank meaning capacity (record m { cell = put m.cell place word })
   blank_put old p near no_goal = let b = old p near (was_no_goal p no_goal) in
       record { run = b.run; head = b.head; cost = b.cost; node = b.node; who = b.who; next = b.next }
 
-  promised_put : (goal : ℕ) → IsPromised meaning room m.cell m.head goal
-      → IsPromised meaning room (put m.cell place word) m.head goal
+  promised_put : (goal : ℕ) → IsPromised meaning capacity m.cell m.head goal
+      → IsPromised meaning capacity (put m.cell place word) m.head goal
   promised_put goal old = record {
     children = λ child is. let t = old.children child is in (t.0, t.1, t.2, taken_stays t.0 child t.2 t.3, t.4);
     asked = λ e is. let t = old.asked e is in (t.0, t.1, t.2, taken_stays t.0 e t.2 t.3);
   }
 
-  promises_put : m.head place ≡ 0 → KeepsPromises meaning room m.cell m.head m.cost m.node
-      → KeepsPromises meaning room (put m.cell place word) m.head m.cost m.node
+  promises_put : m.head place ≡ 0 → KeepsPromises meaning capacity m.cell m.head m.cost m.node
+      → KeepsPromises meaning capacity (put m.cell place word) m.head m.cost m.node
   promises_put not_closed old =
       let else : (p : ℕ) → 2 ^ 63 ≤ m.head p → put m.cell place word p ≡ m.cell p =
       λ p closed. put_else m.cell place word p (λ here. let e : m.head p ≡ 0 = ap m.head here ∙ not_closed in
       absurd (omega arith)) in
       record {
-        promise = λ p near closed. subst (IsPromised meaning room (put m.cell place word) m.head) (sym (else p closed))
+        promise = λ p near closed. subst (IsPromised meaning capacity (put m.cell place word) m.head)
+            (sym (else p closed))
             (promised_put (m.cell p) (old.promise p near closed));
         answer = λ p near closed. subst (λ g. meaning.answer g (m.cost p) (m.node p)) (sym (else p closed))
             (old.answer p near closed);
@@ -97,12 +100,13 @@ module _ (meaning : Meaning) (room : ℕ) (m : Mem) (place word : ℕ) (empty : 
         (⊎_elim (λ t. absurd (omega (arith, t.0))) (λ old_look. kept.set_full found old_look some)) at;
   }
 
-module _ {R : Type 0} (meaning_of : R → Meaning) (rules : R) (room : ℕ) where
+module _ {R : Type 0} (meaning_of : R → Meaning) (rules : R) (capacity : ℕ) where
   -- a board is sound once a seat has put a word into an empty cell
   put_keeps : (words : List ℕ) (views : List (Hands R)) (id : ℕ) (v : Hands R) (place word : ℕ)
-      → IsSound (meaning_of rules) rules room words views → get_elem? views id ≡ some v
-      → 0 < v.parts → MayPut (meaning_of rules) room v place word → get_or words (cell_word place) 0 ≡ 0
-      → IsSound (meaning_of rules) rules room (set words (cell_word place) word) (set views id (placed v place word))
+      → IsSound (meaning_of rules) rules capacity words views → get_elem? views id ≡ some v
+      → 0 < v.parts → MayPut (meaning_of rules) capacity v place word → get_or words (cell_word place) 0 ≡ 0
+      → IsSound (meaning_of rules) rules capacity (set words (cell_word place) word)
+      (set views id (placed v place word))
   put_keeps words views id v place word sound mine some_part may empty =
       let meaning : Meaning = meaning_of rules in
       let m : Mem = mem words in
@@ -112,48 +116,49 @@ module _ {R : Type 0} (meaning_of : R → Meaning) (rules : R) (room : ℕ) wher
       let own = k.hands id v mine in
       let near = may.near in
       let count = sound.count in
-      let blank : IsBlank meaning room m place = k.blank place near (λ is. is.0 empty) in
-      let forgets = forgets_none meaning room m k.promises v.looks own.stays k.cells (cell_word place)
+      let blank : IsBlank meaning capacity m place = k.blank place near (λ is. is.0 empty) in
+      let forgets = forgets_none meaning capacity m k.promises v.looks own.stays k.cells (cell_word place)
       (λ p e. ap (λ i. get_or words i 0) e ∙ empty) in
       record {
         count = length-set words (cell_word place) word ∙ count;
-        by_kinds = subst (λ b. IsSoundBy meaning rules room b (set views id w))
+        by_kinds = subst (λ b. IsSoundBy meaning rules capacity b (set views id w))
             (sym (put_cell words place word (omega arith))) (record {
-              cells = cells_put meaning room m place word empty k.cells v own.stays k.promises may;
-              blank = blank_put meaning room m place word empty k.blank;
-              rights = rights_stay room m.run m.head views id v w mine (λ p. refl) refl k.rights;
-              waits = waits_stay meaning room n.cell m.head m.next m.run views id v w mine refl
-                  (waits_put meaning room m views place word empty k.blank k.waits);
-              promises = promises_put meaning room m place word empty blank.head k.promises;
+              cells = cells_put meaning capacity m place word empty k.cells v own.stays k.promises may;
+              blank = blank_put meaning capacity m place word empty k.blank;
+              rights = rights_stay capacity m.run m.head views id v w mine (λ p. refl) refl k.rights;
+              waits = waits_stay meaning capacity n.cell m.head m.next m.run views id v w mine refl
+                  (waits_put meaning capacity m views place word empty k.blank k.waits);
+              promises = promises_put meaning capacity m place word empty blank.head k.promises;
               full = λ set_full. absurd ((k.full set_full).taken place near empty);
-              hands = of_others_set (AreHands meaning rules room m) (AreHands meaning rules room n) views id w
+              hands = of_others_set (AreHands meaning rules capacity m) (AreHands meaning rules capacity n) views id w
                   (λ other u ne there h. record {
-                    stays = stays_put meaning room m place word empty u.looks h.stays;
+                    stays = stays_put meaning capacity m place word empty u.looks h.stays;
                     absence = h.absence;
                     recorded = h.recorded;
                     stored = h.stored;
                     ends = h.ends;
                     raised = h.raised;
-                    pends = pends_put meaning room m views place word empty k.blank k.waits other u there
+                    pends = pends_put meaning capacity m views place word empty k.blank k.waits other u there
                         u.looks u.rights h.pends;
-                    walked = walked_put meaning room m views place word empty k.blank k.waits other u there h.walked;
+                    walked = walked_put meaning capacity m views place word empty k.blank k.waits other u there
+                        h.walked;
                     awake = h.awake;
                   })
                   k.hands
                   (record {
-                    stays = own_stays_put meaning room m place word empty v.looks own.stays;
+                    stays = own_stays_put meaning capacity m place word empty v.looks own.stays;
                     absence = ((λ e. absurd (may.is_word e)), ((λ _. forgets), own.absence));
                     recorded = own.recorded;
                     stored = own.stored;
                     ends = own.ends;
                     raised = own.raised;
-                    pends = pending_looked meaning room n.cell m.next (cell_word place, word)
+                    pends = pending_looked meaning capacity n.cell m.next (cell_word place, word)
                         ((cell_word place, 0) ∷ v.looks) v.rights v.pending
-                        (pending_looked meaning room n.cell m.next (cell_word place, 0) v.looks v.rights v.pending
-                        (pends_put meaning room m views place word empty k.blank k.waits id v mine v.looks v.rights
+                        (pending_looked meaning capacity n.cell m.next (cell_word place, 0) v.looks v.rights v.pending
+                        (pends_put meaning capacity m views place word empty k.blank k.waits id v mine v.looks v.rights
                         own.pends));
-                    walked = walked_put meaning room m views place word empty k.blank k.waits id v mine own.walked;
-                    awake = inr (awake_has rules room v some_part own.awake);
+                    walked = walked_put meaning capacity m views place word empty k.blank k.waits id v mine own.walked;
+                    awake = inr (awake_has rules capacity v some_part own.awake);
                   });
               parts = total_same (λ (h : Hands R). h.parts) views id v w mine refl ∙ k.parts;
             });
@@ -163,26 +168,27 @@ module _ {R : Type 0} (meaning_of : R → Meaning) (rules : R) (room : ℕ) wher
   -- what a step of a seat from 0 to a new value leads to
   abbrev pub Leads : State Unit (Hands R) → ℕ → ℕ → Sat R → (ℕ → Sat R → Type 0) → ℕ → Type 0
   Leads s i id me then new = (w : Hands R) × (a : Act Unit) × Valid s.homes me.1 a
-      × Holds meaning_of rules room (stepped s i new id me.1 w a) × then (get_or s.words i 0) (w, carried_after me.1 a)
+      × Holds meaning_of rules capacity (stepped s i new id me.1 w a)
+      × then (get_or s.words i 0) (w, carried_after me.1 a)
 
   -- a compare-exchange that failed is a look
   pub miss_leads : (s : State Unit (Hands R)) (id : ℕ) (me : Sat R) (i : ℕ) → 0 < me.0.parts
-      → Holds meaning_of rules room s → get_elem? s.views id ≡ some me.0
-      → Holds meaning_of rules room (stepped s i (get_or s.words i 0) id me.1 (looked me.0 i (get_or s.words i 0))
+      → Holds meaning_of rules capacity s → get_elem? s.views id ≡ some me.0
+      → Holds meaning_of rules capacity (stepped s i (get_or s.words i 0) id me.1 (looked me.0 i (get_or s.words i 0))
       keeps)
   miss_leads s id me i some_part sound mine =
-      subst (λ (ws : List ℕ). IsSound (meaning_of rules) rules room ws
+      subst (λ (ws : List ℕ). IsSound (meaning_of rules) rules capacity ws
       (set s.views id (looked me.0 i (get_or s.words i 0)))) (sym (set-get_or s.words i 0))
-      (look_keeps meaning_of rules room s.words s.views id me.0 i sound mine some_part)
+      (look_keeps meaning_of rules capacity s.words s.views id me.0 i sound mine some_part)
 
   put_at : (slots id : ℕ) (me : Sat R) (place word : ℕ) → 0 < me.0.parts
-      → MayPut (meaning_of rules) room me.0 place word
-      → Allows (Holds meaning_of rules room) slots id me (cell_word place) (λ n. either (eqb n 0) word n)
+      → MayPut (meaning_of rules) capacity me.0 place word
+      → Allows (Holds meaning_of rules capacity) slots id me (cell_word place) (λ n. either (eqb n 0) word n)
       (TellsPut meaning_of (step slots (cell_word place) 0 word none) me)
   put_at slots id me place word some_part may s sound homes mine fits =
       let i : ℕ = cell_word place in
       let then : ℕ → Sat R → Type 0 = TellsPut meaning_of (step slots i 0 word none) me in
-      let moment = moment_of meaning_of rules room s.words s.views id me.0 i sound mine some_part in
+      let moment = moment_of meaning_of rules capacity s.words s.views id me.0 i sound mine some_part in
       exchanged (get_or s.words i 0) 0 word (Leads s i id me then)
       (λ hit. (
         placed me.0 place word,
@@ -190,8 +196,12 @@ module _ {R : Type 0} (meaning_of : R → Meaning) (rules : R) (room : ℕ) wher
         tt,
         put_keeps s.words s.views id me.0 place word sound mine some_part may hit,
         λ p same. let e : place ≡ p = omega (arith, same) in
-            subst (λ q. Tells meaning_of (PutsIn meaning_of me.0 q word (get_or s.words i 0)) me (placed me.0 place word, me.1)) e
-            (record { hands = record { hit = λ _. refl; miss = λ miss. absurd (miss hit); moment = moment }; slots = refl }),
+            subst (λ q. Tells meaning_of (PutsIn meaning_of me.0 q word (get_or s.words i 0)) me
+            (placed me.0 place word, me.1)) e
+            (record {
+              hands = record { hit = λ _. refl; miss = λ miss. absurd (miss hit); moment = moment };
+              slots = refl;
+            }),
       ))
       (λ miss. (
         looked me.0 i (get_or s.words i 0),
@@ -201,14 +211,17 @@ module _ {R : Type 0} (meaning_of : R → Meaning) (rules : R) (room : ℕ) wher
         λ p same. let e : place ≡ p = omega (arith, same) in
             subst (λ q. Tells meaning_of (PutsIn meaning_of me.0 q word (get_or s.words i 0)) me
             (looked me.0 i (get_or s.words i 0), me.1)) e
-            (record { hands = record { hit = λ hit. absurd (miss hit); miss = λ _. refl; moment = moment }; slots = refl }),
+            (record {
+              hands = record { hit = λ hit. absurd (miss hit); miss = λ _. refl; moment = moment };
+              slots = refl;
+            }),
       ))
 
   pub put_allowed : (slots id : ℕ) (me : Sat R) (i place word : ℕ) → i ≡ cell_word place → HasPart me.0
-      → MayPut (meaning_of rules) room me.0 place word
-      → Allows (Holds meaning_of rules room) slots id me i (λ n. either (eqb n 0) word n)
+      → MayPut (meaning_of rules) capacity me.0 place word
+      → Allows (Holds meaning_of rules capacity) slots id me i (λ n. either (eqb n 0) word n)
       (TellsPut meaning_of (step slots i 0 word none) me)
   put_allowed slots id me i place word is some_part may =
-      subst (λ j. Allows (Holds meaning_of rules room) slots id me j (λ n. either (eqb n 0) word n)
+      subst (λ j. Allows (Holds meaning_of rules capacity) slots id me j (λ n. either (eqb n 0) word n)
       (TellsPut meaning_of (step slots j 0 word none) me)) (sym is)
       (put_at slots id me place word some_part may)

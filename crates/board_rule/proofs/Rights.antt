@@ -75,13 +75,13 @@ module _ {R : Type 0} (views : List (Hands R)) (id : ℕ) (v w : Hands R) (mine 
   ended-set p = total-set (λ (u : Hands R). done_at p u.done) views id v w mine
 
   -- the rights are kept where they are kept at the one place that changed
-  pub rights_moved : (room : ℕ) (run head new_run new_head : ℕ → ℕ) (place : ℕ)
+  pub rights_moved : (capacity : ℕ) (run head new_run new_head : ℕ → ℕ) (place : ℕ)
       → ((p : ℕ) → p ≢ place → rights_at p w.rights ≡ rights_at p v.rights)
       → ((p : ℕ) → p ≢ place → done_at p w.done ≡ done_at p v.done)
       → ((p : ℕ) → p ≢ place → new_run p ≡ run p) → ((p : ℕ) → p ≢ place → new_head p ≡ head p)
-      → AreRights new_run new_head (set views id w) place → KeepsRights room run head views
-      → KeepsRights room new_run new_head (set views id w)
-  rights_moved room run head new_run new_head place rights done runs heads here old p near =
+      → AreRights new_run new_head (set views id w) place → KeepsRights capacity run head views
+      → KeepsRights capacity new_run new_head (set views id w)
+  rights_moved capacity run head new_run new_head place rights done runs heads here old p near =
       ⊎_elim (λ e. subst (AreRights new_run new_head (set views id w)) (sym e) here)
       (λ ne.
       let h : held (set views id w) p ≡ held views p = omega (arith, held-set p, rights p ne) in
@@ -106,10 +106,10 @@ pub record IsHeld {R : Type 0} (run head : ℕ → ℕ) (views : List (Hands R))
   pub is_open : head place < 2 ^ 63
 
 -- where a seat has the right to a goal, the goal is held, and by no other seat
-pub held_by : {R : Type 0} (room : ℕ) (run head : ℕ → ℕ) (views : List (Hands R)) (id : ℕ) (v : Hands R) (place : ℕ)
+pub held_by : {R : Type 0} (capacity : ℕ) (run head : ℕ → ℕ) (views : List (Hands R)) (id : ℕ) (v : Hands R) (place : ℕ)
     → get_elem? views id ≡ some v
-    → HasRight room v.rights place → KeepsRights room run head views → IsHeld run head views v place
-held_by room run head views id v place mine has old =
+    → HasRight capacity v.rights place → KeepsRights capacity run head views → IsHeld run head views v place
+held_by capacity run head views id v place mine has old =
     let own : rights_at place v.rights ≤ held views place =
     term_le (λ (u : Hands _). rights_at place u.rights) views id v mine in
     let was = old place has.near in
@@ -124,9 +124,10 @@ held_by room run head views id v place mine has old =
     }
 
 -- a goal that is held by a seat stands in its cell
-pub held_stands : (meaning : Meaning) (room : ℕ) (m : Mem) (p : ℕ) → KeepsBlank meaning room m → p < room → m.run p ≢ 0
+pub held_stands : (meaning : Meaning) (capacity : ℕ) (m : Mem) (p : ℕ) → KeepsBlank meaning capacity m → p < capacity
+    → m.run p ≢ 0
     → m.cell p ≢ 0
-held_stands meaning room m p blank near runs none = runs (blank p near (λ is. is.0 none)).run
+held_stands meaning capacity m p blank near runs none = runs (blank p near (λ is. is.0 none)).run
 
 -- a run word with a bit set is not 0
 pub bit_runs : (n i : ℕ) → 1 ≤ bit_at n i → n ≢ 0

@@ -1,5 +1,6 @@
 -- A step at a goal's run word keeps soundness where what is said of run words, rights and waits holds after it.
-use Rattle.std.proofs.Common.{length-set, ◌≡◌, ℕ, ◌<◌, ◌≢◌, List, ◌∷◌, set, sym, ap, subst, ◌∙◌, refl, inr, ⊎_elim, arith}
+use Rattle.std.proofs.Common.{length-set, ◌≡◌, ℕ, ◌<◌, ◌≢◌, List, ◌∷◌, set}
+use Rattle.std.proofs.Common.{sym, ap, subst, ◌∙◌, refl, inr, ⊎_elim, arith}
 use mathlib.Core.Option.{some}
 use lib.ListN.{get_elem?}
 use Rattle.board_rule.specs.Meaning.{Meaning}
@@ -24,17 +25,17 @@ stays_beside cell head full looks word found no_full no_cell no_head old = recor
 }
 
 -- a look at a word that is no cell tells of no absence
-pub absence_beside : (meaning : Meaning) (room : ℕ) (looks : List (ℕ × ℕ)) (word found : ℕ)
+pub absence_beside : (meaning : Meaning) (capacity : ℕ) (looks : List (ℕ × ℕ)) (word found : ℕ)
     → ((p : ℕ) → cell_word p ≢ word)
-    → RemembersAbsence meaning room looks → RemembersAbsence meaning room ((word, found) ∷ looks)
-absence_beside meaning room looks word found no_cell old = ((λ _ shown p _ is _ _. absurd (no_cell p is)), old)
+    → RemembersAbsence meaning capacity looks → RemembersAbsence meaning capacity ((word, found) ∷ looks)
+absence_beside meaning capacity looks word found no_cell old = ((λ _ shown p _ is _ _. absurd (no_cell p is)), old)
 
 -- the words of empty cells and of members are 0 where the goal's run word has changed
-pub blank_run : (meaning : Meaning) (room : ℕ) (m : Mem) (place x : ℕ) → HoldsGoal meaning room m.cell place
-    → KeepsBlank meaning room m
-    → KeepsBlank meaning room (record m { run = put m.run place x })
-blank_run meaning room m place x holds old p near no_goal = let b = old p near no_goal in record {
-  run = put_else m.run place x p (λ e. no_goal (subst (HoldsGoal meaning room m.cell) (sym e) holds)) ∙ b.run;
+pub blank_run : (meaning : Meaning) (capacity : ℕ) (m : Mem) (place x : ℕ) → HoldsGoal meaning capacity m.cell place
+    → KeepsBlank meaning capacity m
+    → KeepsBlank meaning capacity (record m { run = put m.run place x })
+blank_run meaning capacity m place x holds old p near no_goal = let b = old p near no_goal in record {
+  run = put_else m.run place x p (λ e. no_goal (subst (HoldsGoal meaning capacity m.cell) (sym e) holds)) ∙ b.run;
   head = b.head;
   cost = b.cost;
   node = b.node;
@@ -43,9 +44,10 @@ blank_run meaning room m place x holds old p near no_goal = let b = old p near n
 }
 
 -- also where it was not 0
-pub blank_running : (meaning : Meaning) (room : ℕ) (m : Mem) (place x : ℕ) → m.run place ≢ 0 → KeepsBlank meaning room m
-    → KeepsBlank meaning room (record m { run = put m.run place x })
-blank_running meaning room m place x runs old p near no_goal = let b = old p near no_goal in record {
+pub blank_running : (meaning : Meaning) (capacity : ℕ) (m : Mem) (place x : ℕ) → m.run place ≢ 0
+    → KeepsBlank meaning capacity m
+    → KeepsBlank meaning capacity (record m { run = put m.run place x })
+blank_running meaning capacity m place x runs old p near no_goal = let b = old p near no_goal in record {
   run = put_else m.run place x p (λ e. runs (ap m.run (sym e) ∙ b.run)) ∙ b.run;
   head = b.head;
   cost = b.cost;
@@ -54,7 +56,7 @@ blank_running meaning room m place x runs old p near no_goal = let b = old p nea
   next = b.next;
 }
 
-module _ {R : Type 0} (meaning_of : R → Meaning) (rules : R) (room : ℕ) where
+module _ {R : Type 0} (meaning_of : R → Meaning) (rules : R) (capacity : ℕ) where
   -- the seat's hands after a step at a run word
   abbrev pub at_run : Hands R → ℕ → ℕ → ℕ → Hands R → Hands R
   at_run v place found x given = record v {
@@ -70,21 +72,22 @@ module _ {R : Type 0} (meaning_of : R → Meaning) (rules : R) (room : ℕ) wher
 
   -- what has to hold after such a step
   pub record HoldsAtRun (m : Mem) (run : ℕ → ℕ) (views : List (Hands R)) (id : ℕ) (w : Hands R) : Type 0 where
-    pub blank : KeepsBlank (meaning_of rules) room (record m { run = run })
-    pub rights : KeepsRights room run m.head (set views id w)
-    pub waits : KeepsWaits (meaning_of rules) room m.cell run m.head m.next (set views id w)
+    pub blank : KeepsBlank (meaning_of rules) capacity (record m { run = run })
+    pub rights : KeepsRights capacity run m.head (set views id w)
+    pub waits : KeepsWaits (meaning_of rules) capacity m.cell run m.head m.next (set views id w)
     pub others : (other : ℕ) (u : Hands R) → other ≢ id → get_elem? views other ≡ some u
-        → AreHands (meaning_of rules) rules room m u → Each (IsRaised run u.pending) u.rights
+        → AreHands (meaning_of rules) rules capacity m u → Each (IsRaised run u.pending) u.rights
     pub stored : Each (IsStored m.cost m.node m.who) w.rights
     pub ends : EndsClaims w
     pub raised : Each (IsRaised run w.pending) w.rights
-    pub pends : ArePending (meaning_of rules) room m.cell m.next w.looks w.rights w.pending
-    pub walked : IsWalked (meaning_of rules) room m.cell m.head m.next w.walk
+    pub pends : ArePending (meaning_of rules) capacity m.cell m.next w.looks w.rights w.pending
+    pub walked : IsWalked (meaning_of rules) capacity m.cell m.head m.next w.walk
 
   pub run_step_keeps : (words : List ℕ) (views : List (Hands R)) (id : ℕ) (v given : Hands R) (place found x : ℕ)
-      → IsSound (meaning_of rules) rules room words views → get_elem? views id ≡ some v → 0 < v.parts → place < room
+      → IsSound (meaning_of rules) rules capacity words views → get_elem? views id ≡ some v → 0 < v.parts
+      → place < capacity
       → HoldsAtRun (mem words) (put (mem words).run place x) views id (at_run v place found x given)
-      → IsSound (meaning_of rules) rules room (set words (run_word place) x)
+      → IsSound (meaning_of rules) rules capacity (set words (run_word place) x)
       (set views id (at_run v place found x given))
   run_step_keeps words views id v given place found x sound mine some_part near holds =
       let meaning : Meaning = meaning_of rules in
@@ -96,7 +99,7 @@ module _ {R : Type 0} (meaning_of : R → Meaning) (rules : R) (room : ℕ) wher
       let count = sound.count in
       record {
         count = length-set words (run_word place) x ∙ count;
-        by_kinds = subst (λ b. IsSoundBy meaning rules room b (set views id w))
+        by_kinds = subst (λ b. IsSoundBy meaning rules capacity b (set views id w))
             (sym (put_run words place x (omega arith))) (record {
               cells = k.cells;
               blank = holds.blank;
@@ -104,7 +107,7 @@ module _ {R : Type 0} (meaning_of : R → Meaning) (rules : R) (room : ℕ) wher
               waits = holds.waits;
               promises = k.promises;
               full = k.full;
-              hands = of_others_set (AreHands meaning rules room m) (AreHands meaning rules room n) views id w
+              hands = of_others_set (AreHands meaning rules capacity m) (AreHands meaning rules capacity n) views id w
                   (λ other u ne there h. record {
                     stays = h.stays;
                     absence = h.absence;
@@ -120,7 +123,7 @@ module _ {R : Type 0} (meaning_of : R → Meaning) (rules : R) (room : ℕ) wher
                   (record {
                     stays = stays_beside m.cell m.head m.full v.looks (run_word place) found (λ e. omega arith)
                         (λ p e. omega arith) (λ p e. omega arith) own.stays;
-                    absence = absence_beside meaning room v.looks (run_word place) found (λ p e. omega arith)
+                    absence = absence_beside meaning capacity v.looks (run_word place) found (λ p e. omega arith)
                         own.absence;
                     recorded = own.recorded;
                     stored = holds.stored;
@@ -128,7 +131,7 @@ module _ {R : Type 0} (meaning_of : R → Meaning) (rules : R) (room : ℕ) wher
                     raised = holds.raised;
                     pends = holds.pends;
                     walked = holds.walked;
-                    awake = inr (awake_has rules room v some_part own.awake);
+                    awake = inr (awake_has rules capacity v some_part own.awake);
                   });
               parts = total_same (λ (h : Hands R). h.parts) views id v w mine refl ∙ k.parts;
             });

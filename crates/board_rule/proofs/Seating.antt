@@ -37,15 +37,15 @@ module _ {R : Type 0} where
   none_alone words views id other v w mine its apart old k u there kept is =
       apart (omega (arith, (old k u there).only kept is, some_below views id v mine, some_below views other w its))
 
-module _ {R : Type 0} (meaning_of : R → Meaning) (rules : R) (room : ℕ) where
+module _ {R : Type 0} (meaning_of : R → Meaning) (rules : R) (capacity : ℕ) where
   -- a board is sound once one of its seats was split
   split_keeps : (words : List ℕ) (views : List (Hands R)) (id : ℕ) (v : Hands R)
-      → IsSound (meaning_of rules) rules room words views → get_elem? views id ≡ some v → 2 ≤ v.parts
-      → IsSound (meaning_of rules) rules room words (set views id (parted v) ++ part v ∷ [])
+      → IsSound (meaning_of rules) rules capacity words views → get_elem? views id ≡ some v → 2 ≤ v.parts
+      → IsSound (meaning_of rules) rules capacity words (set views id (parted v) ++ part v ∷ [])
   split_keeps words views id v sound mine two =
       let k = sound.by_kinds in
       let own = k.hands id v mine in
-      let has = awake_has rules room v (omega arith) own.awake in
+      let has = awake_has rules capacity v (omega arith) own.awake in
       let left : Hands R = parted v in
       let right : Hands R = part v in
       let rest : List (Hands R) = set views id left in
@@ -55,7 +55,7 @@ module _ {R : Type 0} (meaning_of : R → Meaning) (rules : R) (room : ℕ) wher
       let d : (p : ℕ) → ended (rest ++ right ∷ []) p ≡ ended views p = λ p.
       let f : Hands R → ℕ = λ u. times (λ (e : Ended). e.place) p u.done in
       omega (arith, total-append f rest (right ∷ []), total_same f views id v left mine refl) in
-      let is_left : AreHands (meaning_of rules) rules room (mem words) left =
+      let is_left : AreHands (meaning_of rules) rules capacity (mem words) left =
       record {
         stays = own.stays;
         absence = own.absence;
@@ -67,7 +67,7 @@ module _ {R : Type 0} (meaning_of : R → Meaning) (rules : R) (room : ℕ) wher
         walked = own.walked;
         awake = inr (omega arith, has.1, has.2);
       } in
-      let is_right : AreHands (meaning_of rules) rules room (mem words) right =
+      let is_right : AreHands (meaning_of rules) rules capacity (mem words) right =
       record {
         stays = own.stays;
         absence = own.absence;
@@ -76,7 +76,7 @@ module _ {R : Type 0} (meaning_of : R → Meaning) (rules : R) (room : ℕ) wher
         ends = λ p. refl;
         raised = tt;
         pends = tt;
-        walked = walks_none (meaning_of rules) room (mem words).cell (mem words).head (mem words).next;
+        walked = walks_none (meaning_of rules) capacity (mem words).cell (mem words).head (mem words).next;
         awake = inr (omega arith, has.1, has.2);
       } in
       record {
@@ -86,16 +86,18 @@ module _ {R : Type 0} (meaning_of : R → Meaning) (rules : R) (room : ℕ) wher
           blank = k.blank;
           rights = λ p near. are_rights_as (mem words).run (mem words).head views (rest ++ right ∷ []) p (h p) (d p)
               (k.rights p near);
-          waits = waits_as (meaning_of rules) room (mem words).cell (mem words).head (mem words).next (mem words).run
+          waits = waits_as (meaning_of rules) capacity (mem words).cell (mem words).head (mem words).next
+              (mem words).run
               (mem words).run views (rest ++ right ∷ []) (λ p b few. refl)
               (λ q. let f : Hands R → ℕ = λ u. count q (in_hand u.pending u.walk) in
               omega (arith, total-append f rest (right ∷ []), total_same f views id v left mine refl)) k.waits;
           promises = k.promises;
           full = k.full;
           hands = λ j u there. ⊎_elim
-              (λ old. of_all_set (AreHands (meaning_of rules) rules room (mem words)) views id left k.hands is_left j u
+              (λ old. of_all_set (AreHands (meaning_of rules) rules capacity (mem words)) views id left k.hands
+              is_left j u
               old)
-              (λ e. subst (AreHands (meaning_of rules) rules room (mem words)) e is_right)
+              (λ e. subst (AreHands (meaning_of rules) rules capacity (mem words)) e is_right)
               (at_snoc rest right u j there);
           parts = let f : Hands R → ℕ = λ u. u.parts in
               omega (arith, total-append f rest (right ∷ []), total-set f views id v left mine, k.parts);
@@ -112,19 +114,19 @@ module _ {R : Type 0} (meaning_of : R → Meaning) (rules : R) (room : ℕ) wher
       }
 
   pub split_allowed : (id : ℕ) (v : Hands R) → MaySplit v
-      → Splits (Holds meaning_of rules room) id v (parted v) (part v)
+      → Splits (Holds meaning_of rules capacity) id v (parted v) (part v)
   split_allowed id v two s sound mine = split_keeps s.words s.views id v sound mine two
 
   -- a board is sound once one of its seats took in another
   join_keeps : (words : List ℕ) (views : List (Hands R)) (id other : ℕ) (v w : Hands R)
-      → IsSound (meaning_of rules) rules room words views → get_elem? views id ≡ some v → other ≢ id
+      → IsSound (meaning_of rules) rules capacity words views → get_elem? views id ≡ some v → other ≢ id
       → get_elem? views other ≡ some w → 0 < v.parts → MayJoin w
-      → IsSound (meaning_of rules) rules room words (set (set views id (joined v w)) other spent)
+      → IsSound (meaning_of rules) rules capacity words (set (set views id (joined v w)) other spent)
   join_keeps words views id other v w sound mine apart its some_part may =
       let k = sound.by_kinds in
       let own = k.hands id v mine in
       let theirs = k.hands other w its in
-      let has = awake_has rules room v some_part own.awake in
+      let has = awake_has rules capacity v some_part own.awake in
       let both : Hands R = joined v w in
       let middle : List (Hands R) = set views id both in
       let after : List (Hands R) = set middle other spent in
@@ -142,7 +144,7 @@ module _ {R : Type 0} (meaning_of : R → Meaning) (rules : R) (room : ℕ) wher
         total-set f views id v both mine,
         times-append (λ (e : Ended). e.place) p w.done v.done,
       ) in
-      let is_both : AreHands (meaning_of rules) rules room (mem words) both = record {
+      let is_both : AreHands (meaning_of rules) rules capacity (mem words) both = record {
         stays = record {
           cells = λ p found at some_found. ⊎_elim (λ t.
               theirs.stays.cells p found (lasting_looked w.looks _ found t) some_found)
@@ -153,8 +155,8 @@ module _ {R : Type 0} (meaning_of : R → Meaning) (rules : R) (room : ℕ) wher
               (λ t. theirs.stays.set_full found (lasting_looked w.looks _ found t) some_found)
               (λ t. own.stays.set_full found t some_found) (looked_append (lasting w.looks) v.looks _ found at);
         };
-        absence = absence_append (meaning_of rules) room w.looks v.looks own.absence;
-        recorded = each_append (IsRecorded room (mem words).head (mem words).cost (mem words).node (mem words).who)
+        absence = absence_append (meaning_of rules) capacity w.looks v.looks own.absence;
+        recorded = each_append (IsRecorded capacity (mem words).head (mem words).cost (mem words).node (mem words).who)
             w.done v.done theirs.recorded own.recorded;
         stored = own.stored;
         ends = λ p. omega (
@@ -167,7 +169,8 @@ module _ {R : Type 0} (meaning_of : R → Meaning) (rules : R) (room : ℕ) wher
           times-append (λ (e : Ended). e.place) p w.done v.done,
         );
         raised = own.raised;
-        pends = pending_as (meaning_of rules) room (mem words).cell (mem words).next (mem words).cell (mem words).next
+        pends = pending_as (meaning_of rules) capacity (mem words).cell (mem words).next (mem words).cell
+            (mem words).next
             v.looks both.looks v.rights v.rights v.pending
             (λ x is old. record {
               has = old.has;
@@ -178,16 +181,17 @@ module _ {R : Type 0} (meaning_of : R → Meaning) (rules : R) (room : ℕ) wher
         walked = own.walked;
         awake = inr (omega arith, has.1, has.2);
       } in
-      let is_spent : AreHands (meaning_of rules) rules room (mem words) spent =
-      hands_of_nothing (meaning_of rules) rules room (mem words) spent (inl refl) in
-      let all = AreHands (meaning_of rules) rules room (mem words) in
+      let is_spent : AreHands (meaning_of rules) rules capacity (mem words) spent =
+      hands_of_nothing (meaning_of rules) rules capacity (mem words) spent (inl refl) in
+      let all = AreHands (meaning_of rules) rules capacity (mem words) in
       record {
         count = sound.count;
         by_kinds = record {
           cells = k.cells;
           blank = k.blank;
           rights = λ p near. are_rights_as (mem words).run (mem words).head views after p (h p) (d p) (k.rights p near);
-          waits = waits_as (meaning_of rules) room (mem words).cell (mem words).head (mem words).next (mem words).run
+          waits = waits_as (meaning_of rules) capacity (mem words).cell (mem words).head (mem words).next
+              (mem words).run
               (mem words).run views after (λ p b few. refl)
               (λ q. let f : Hands R → ℕ = λ u. count q (in_hand u.pending u.walk) in
               omega (
@@ -214,7 +218,7 @@ module _ {R : Type 0} (meaning_of : R → Meaning) (rules : R) (room : ℕ) wher
       }
 
   pub join_allowed : (id other : ℕ) (v w : Hands R) → HasPart v → MayJoin w
-      → Joins (Holds meaning_of rules room) id v other w (joined v w) spent
+      → Joins (Holds meaning_of rules capacity) id v other w (joined v w) spent
   join_allowed id other v w some_part may s sound mine apart its =
       join_keeps s.words s.views id other v w sound mine apart (sym (set_else s.views id other (joined v w) apart)
       ∙ its) some_part may

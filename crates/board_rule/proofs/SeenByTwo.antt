@@ -36,13 +36,13 @@ lasts_not look p is e =
     none_of false true c h = h
     none_of false false c h = h
 
-pub absence_append : (meaning : Meaning) (room : ℕ) (ls ms : List (ℕ × ℕ)) → RemembersAbsence meaning room ms
-    → RemembersAbsence meaning room (lasting ls ++ ms)
-absence_append meaning room [] ms h = h
-absence_append meaning room (l ∷ ls) ms h = by (lasts l) refl (absence_append meaning room ls ms h)
+pub absence_append : (meaning : Meaning) (capacity : ℕ) (ls ms : List (ℕ × ℕ)) → RemembersAbsence meaning capacity ms
+    → RemembersAbsence meaning capacity (lasting ls ++ ms)
+absence_append meaning capacity [] ms h = h
+absence_append meaning capacity (l ∷ ls) ms h = by (lasts l) refl (absence_append meaning capacity ls ms h)
   where
-    by : (b : Bool) → lasts l ≡ b → RemembersAbsence meaning room (lasting ls ++ ms)
-        → RemembersAbsence meaning room (cond b (l ∷ lasting ls) (lasting ls) ++ ms)
+    by : (b : Bool) → lasts l ≡ b → RemembersAbsence meaning capacity (lasting ls ++ ms)
+        → RemembersAbsence meaning capacity (cond b (l ∷ lasting ls) (lasting ls) ++ ms)
     by true is more = (
       (λ e word p near at shows saw. let no : true ≡ false = sym is ∙ lasts_not l p at e in
           let bad : ⊥ = cc in bad),

@@ -26,21 +26,21 @@ use Rattle.board_rule.proofs.Rights.{counts_none, held-set, ended-set, rights_mo
 use Rattle.board_rule.proofs.RunWords.{blank_running, run_step_keeps}
 
 -- a held goal that is suspended is held by no seat
-rights_suspended : {R : Type 0} (room : ℕ) (m : Mem) (views : List (Hands R)) (id : ℕ) (v : Hands R) (place : ℕ)
+rights_suspended : {R : Type 0} (capacity : ℕ) (m : Mem) (views : List (Hands R)) (id : ℕ) (v : Hands R) (place : ℕ)
     → get_elem? views id ≡ some v
-    → HasRight room v.rights place → KeepsRights room m.run m.head views
-    → KeepsRights room (put m.run place (cleared (m.run place) 8)) m.head
+    → HasRight capacity v.rights place → KeepsRights capacity m.run m.head views
+    → KeepsRights capacity (put m.run place (cleared (m.run place) 8)) m.head
     (set views id (suspended v place (m.run place)))
-rights_suspended room m views id v place mine has old =
+rights_suspended capacity m views id v place mine has old =
     let x = cleared (m.run place) 8 in
     let w = suspended v place (m.run place) in
     let was = old place has.near in
-    let is = held_by room m.run m.head views id v place mine has old in
+    let is = held_by capacity m.run m.head views id v place mine has old in
     let gone = without_here place v.rights has.held in
     let h : held (set views id w) place ≡ 0 =
     omega (arith, held-set views id v w mine place, is.held_once, is.right_once) in
     let d : ended (set views id w) place ≡ 0 = omega (arith, ended-set views id v w mine place, is.not_ended) in
-    rights_moved views id v w mine room m.run m.head (put m.run place x) m.head place
+    rights_moved views id v w mine capacity m.run m.head (put m.run place x) m.head place
     (λ p ne. without_else place p v.rights ne) (λ _ _. refl)
     (λ p ne. put_else m.run place x p ne) (λ _ _. refl)
     (record {
@@ -55,13 +55,13 @@ rights_suspended room m views id v place mine has old =
     })
     old
 
-module _ {R : Type 0} (meaning_of : R → Meaning) (rules : R) (room : ℕ) where
+module _ {R : Type 0} (meaning_of : R → Meaning) (rules : R) (capacity : ℕ) where
   -- a board is sound once a seat has suspended its goal
   suspend_keeps : (words : List ℕ) (views : List (Hands R)) (id : ℕ) (v : Hands R) (place : ℕ)
-      → IsSound (meaning_of rules) rules room words views → get_elem? views id ≡ some v
-      → 0 < v.parts → MaySuspend room v place
+      → IsSound (meaning_of rules) rules capacity words views → get_elem? views id ≡ some v
+      → 0 < v.parts → MaySuspend capacity v place
       → let found = get_or words (run_word place) 0 in
-      IsSound (meaning_of rules) rules room (set words (run_word place) (cleared found 8))
+      IsSound (meaning_of rules) rules capacity (set words (run_word place) (cleared found 8))
       (set views id (suspended v place found))
   suspend_keeps words views id v place sound mine some_part may =
       let has = may.has in
@@ -73,14 +73,14 @@ module _ {R : Type 0} (meaning_of : R → Meaning) (rules : R) (room : ℕ) wher
       let k = sound.by_kinds in
       let own = k.hands id v mine in
       let gone = without_here place v.rights has.held in
-      let is = held_by room m.run m.head views id v place mine has k.rights in
+      let is = held_by capacity m.run m.head views id v place mine has k.rights in
       let same : SameBits m.run run = same_bits_put m.run place x
       (λ b few. cleared_other (m.run place) 8 b (omega arith) (omega arith) (λ e. omega arith)) in
-      run_step_keeps meaning_of rules room words views id v w place (m.run place) x sound mine some_part has.near
+      run_step_keeps meaning_of rules capacity words views id v w place (m.run place) x sound mine some_part has.near
       (record {
-        blank = blank_running meaning room m place x (bit_runs (m.run place) 8 (omega (arith, is.runs))) k.blank;
-        rights = rights_suspended room m views id v place mine has k.rights;
-        waits = waits_as meaning room m.cell m.head m.next m.run run views (set views id w) same
+        blank = blank_running meaning capacity m place x (bit_runs (m.run place) 8 (omega (arith, is.runs))) k.blank;
+        rights = rights_suspended capacity m views id v place mine has k.rights;
+        waits = waits_as meaning capacity m.cell m.head m.next m.run run views (set views id w) same
             (handed_same views id v w mine refl) k.waits;
         others = λ other u ne there h. raised_as m.run run u.pending u.rights same h.raised;
         stored = each_without (IsStored m.cost m.node m.who) place v.rights own.stored;
@@ -97,12 +97,12 @@ module _ {R : Type 0} (meaning_of : R → Meaning) (rules : R) (room : ℕ) wher
             (cases_eq p place);
         raised = each_without (IsRaised run v.pending) place v.rights
             (raised_as m.run run v.pending v.rights same own.raised);
-        pends = subst (λ o. ArePending meaning room m.cell m.next w.looks w.rights o) (sym may.free) tt;
+        pends = subst (λ o. ArePending meaning capacity m.cell m.next w.looks w.rights o) (sym may.free) tt;
         walked = own.walked;
       })
 
-  suspend_at : (slots id : ℕ) (me : Sat R) (place : ℕ) → 0 < me.0.parts → MaySuspend room me.0 place
-      → Allows (Holds meaning_of rules room) slots id me (run_word place) (λ n. bit_and n 18446744073709551359)
+  suspend_at : (slots id : ℕ) (me : Sat R) (place : ℕ) → 0 < me.0.parts → MaySuspend capacity me.0 place
+      → Allows (Holds meaning_of rules capacity) slots id me (run_word place) (λ n. bit_and n 18446744073709551359)
       (TellsSuspend meaning_of (step slots (run_word place) 18446744073709551359 0 none) me)
   suspend_at slots id me place some_part may s sound homes mine fits =
       let found : ℕ = get_or s.words (run_word place) 0 in (
@@ -115,17 +115,18 @@ module _ {R : Type 0} (meaning_of : R → Meaning) (rules : R) (room : ℕ) wher
             (record {
               hands = record {
                 hands_are = refl;
-                moment = moment_of meaning_of rules room s.words s.views id me.0 (run_word place) sound mine some_part;
+                moment = moment_of meaning_of rules capacity s.words s.views id me.0 (run_word place) sound mine
+                    some_part;
               };
               slots = refl;
             }),
       )
 
   pub suspend_allowed : (slots id : ℕ) (me : Sat R) (i place : ℕ) → i ≡ run_word place → HasPart me.0
-      → MaySuspend room me.0 place
-      → Allows (Holds meaning_of rules room) slots id me i (λ n. bit_and n 18446744073709551359)
+      → MaySuspend capacity me.0 place
+      → Allows (Holds meaning_of rules capacity) slots id me i (λ n. bit_and n 18446744073709551359)
       (TellsSuspend meaning_of (step slots i 18446744073709551359 0 none) me)
   suspend_allowed slots id me i place is some_part may =
-      subst (λ j. Allows (Holds meaning_of rules room) slots id me j (λ n. bit_and n 18446744073709551359)
+      subst (λ j. Allows (Holds meaning_of rules capacity) slots id me j (λ n. bit_and n 18446744073709551359)
       (TellsSuspend meaning_of (step slots j 18446744073709551359 0 none) me)) (sym is)
       (suspend_at slots id me place some_part may)

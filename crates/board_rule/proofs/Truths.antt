@@ -9,9 +9,11 @@ use Rattle.board_rule.specs.Looks.{finished, ShowsPromise, ForgetsNone}
 use Rattle.board_rule.proofs.Chains.{later_closed}
 use Rattle.board_rule.specs.Rule.{AreCells, Stands, IsFinished, IsPromised, KeepsPromises, Stays}
 
-module _ (meaning : Meaning) (room : ℕ) (m : Mem) (promises : KeepsPromises meaning room m.cell m.head m.cost m.node)
+module _ (meaning : Meaning) (capacity : ℕ) (m : Mem) (promises : KeepsPromises meaning capacity m.cell m.head m.cost
+    m.node)
     (looks : List (ℕ × ℕ)) (stays : Stays m.cell m.head m.full looks) where
-  pub shown_finished : (goal : ℕ) → ShowsFinished meaning room looks goal → IsFinished meaning room m.cell m.head goal
+  pub shown_finished : (goal : ℕ) → ShowsFinished meaning capacity looks goal
+      → IsFinished meaning capacity m.cell m.head goal
   shown_finished _ (seen_closed goal p near some_goal at closed) = (
     p,
     near,
@@ -23,32 +25,33 @@ module _ (meaning : Meaning) (room : ℕ) (m : Mem) (promises : KeepsPromises me
       let t = shown_finished goal shown in (promises.promise t.0 t.1 t.4).children child
       (subst (λ g. meaning.child g child) (sym t.3) is)
 
-  pub shown_stands : (word : ℕ) → ShowsEntry meaning room looks word → Stands meaning room m.cell word
+  pub shown_stands : (word : ℕ) → ShowsEntry meaning capacity looks word → Stands meaning capacity m.cell word
   shown_stands _ (seen_there word p near some_word at) = (p, near, some_word, stays.cells p word at some_word)
   shown_stands _ (asked_by goal word shown is) =
       let t = shown_finished goal shown in (promises.promise t.0 t.1 t.4).asked word
       (subst (λ g. meaning.asked g word) (sym t.3) is)
   shown_stands _ (finished goal shown) = let t = shown_finished goal shown in (t.0, t.1, t.2, t.3)
 
-  pub shown_promise : (goal : ℕ) → ShowsPromise meaning room looks goal → IsPromised meaning room m.cell m.head goal
+  pub shown_promise : (goal : ℕ) → ShowsPromise meaning capacity looks goal
+      → IsPromised meaning capacity m.cell m.head goal
   shown_promise goal shows = record {
     children = λ child is. shown_finished child (shows.children child is);
     asked = λ word is. shown_stands word (shows.asked word is);
   }
 
   -- other words that looks found stand there still
-  pub saw_passes : (word steps : ℕ) → SawOthers room looks word steps → PassesOthers room m.cell word steps
+  pub saw_passes : (word steps : ℕ) → SawOthers capacity looks word steps → PassesOthers capacity m.cell word steps
   saw_passes word steps saw p near before =
       let t = saw p near before in let e = stays.cells p t.0 t.1 t.2 in
       ((λ none. t.2 (sym e ∙ none)), λ same. t.3 (sym e ∙ same))
 
   -- where a cell is empty, no word that the looks show was passed by on the way to it
-  pub forgets_none : AreCells meaning room m.cell → (empty : ℕ)
-      → ((place : ℕ) → cell_word place ≡ empty → m.cell place ≡ 0) → ForgetsNone meaning room looks empty
+  pub forgets_none : AreCells meaning capacity m.cell → (empty : ℕ)
+      → ((place : ℕ) → cell_word place ≡ empty → m.cell place ≡ 0) → ForgetsNone meaning capacity looks empty
   forgets_none cells empty none word place near is shows saw =
       let t = shown_stands word shows in
-      lacks_at_empty room m.cell word place cells.are_set t.2 near (none place is)
-      (saw_passes word (steps_to room (home_of word room) place) saw) t.0 t.1 t.3
+      lacks_at_empty capacity m.cell word place cells.are_set t.2 near (none place is)
+      (saw_passes word (steps_to capacity (home_of word capacity) place) saw) t.0 t.1 t.3
 
 -- a look at a word finds what stays so
 pub look_stays : (words : List ℕ) (word : ℕ) (looks : List (ℕ × ℕ))

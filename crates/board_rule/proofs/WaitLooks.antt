@@ -31,7 +31,7 @@ raised_by run pending new_pending rights same =
       others = λ b more few. old.others b more few ∙ ap (times (λ (q : ℕ). q) (8 * r.place + b)) (sym same);
     }) rights
 
-module _ {R : Type 0} (meaning_of : R → Meaning) (rules : R) (room : ℕ) where
+module _ {R : Type 0} (meaning_of : R → Meaning) (rules : R) (capacity : ℕ) where
   -- a seat after a look, which changed what it knows of its wait and of its walk
   abbrev pub after_look : Hands R → ℕ → ℕ → Option Pending → Walk → Hands R
   after_look v word found pending walk = record v { looks = (word, found) ∷ v.looks; pending = pending; walk = walk }
@@ -39,12 +39,12 @@ module _ {R : Type 0} (meaning_of : R → Meaning) (rules : R) (room : ℕ) wher
   -- a board is sound after such a look
   pub wait_look_keeps : (words : List ℕ) (views : List (Hands R)) (id : ℕ) (v : Hands R) (word : ℕ)
       (pending : Option Pending) (walk : Walk)
-      → IsSound (meaning_of rules) rules room words views → get_elem? views id ≡ some v → 0 < v.parts
+      → IsSound (meaning_of rules) rules capacity words views → get_elem? views id ≡ some v → 0 < v.parts
       → waiting pending ≡ waiting v.pending → walk.waiters ≡ v.walk.waiters
-      → ArePending (meaning_of rules) room (mem words).cell (mem words).next ((word, get_or words word 0) ∷ v.looks)
+      → ArePending (meaning_of rules) capacity (mem words).cell (mem words).next ((word, get_or words word 0) ∷ v.looks)
       v.rights pending
-      → IsWalked (meaning_of rules) room (mem words).cell (mem words).head (mem words).next walk
-      → IsSound (meaning_of rules) rules room words
+      → IsWalked (meaning_of rules) capacity (mem words).cell (mem words).head (mem words).next walk
+      → IsSound (meaning_of rules) rules capacity words
       (set views id (after_look v word (get_or words word 0) pending walk))
   wait_look_keeps words views id v word pending walk sound mine some_part same_waiter same_walk pends walked =
       let meaning : Meaning = meaning_of rules in
@@ -56,15 +56,16 @@ module _ {R : Type 0} (meaning_of : R → Meaning) (rules : R) (room : ℕ) wher
         by_kinds = record {
           cells = k.cells;
           blank = k.blank;
-          rights = rights_stay room (mem words).run (mem words).head views id v w mine (λ p. refl) refl k.rights;
-          waits = waits_stay meaning room (mem words).cell (mem words).head (mem words).next (mem words).run views id v
+          rights = rights_stay capacity (mem words).run (mem words).head views id v w mine (λ p. refl) refl k.rights;
+          waits = waits_stay meaning capacity (mem words).cell (mem words).head (mem words).next (mem words).run views
+              id v
               w mine (λ i. same_waiter i ++ same_walk i) k.waits;
           promises = k.promises;
           full = k.full;
-          hands = of_all_set (AreHands meaning rules room (mem words)) views id w k.hands (record {
+          hands = of_all_set (AreHands meaning rules capacity (mem words)) views id w k.hands (record {
             stays = look_stays words word v.looks own.stays;
             absence = (
-              (λ empty. forgets_none meaning room (mem words) k.promises v.looks own.stays k.cells word
+              (λ empty. forgets_none meaning capacity (mem words) k.promises v.looks own.stays k.cells word
                   (λ p e. ap (λ n. get_or words n 0) e ∙ empty)),
               own.absence,
             );
@@ -74,7 +75,7 @@ module _ {R : Type 0} (meaning_of : R → Meaning) (rules : R) (room : ℕ) wher
             raised = raised_by (mem words).run v.pending pending v.rights same_waiter own.raised;
             pends = pends;
             walked = walked;
-            awake = inr (awake_has rules room v some_part own.awake);
+            awake = inr (awake_has rules capacity v some_part own.awake);
           });
           parts = total_same (λ (h : Hands R). h.parts) views id v w mine refl ∙ k.parts;
         };
@@ -83,13 +84,13 @@ module _ {R : Type 0} (meaning_of : R → Meaning) (rules : R) (room : ℕ) wher
 
   -- what is known of a wait once its child's head was seen
   pub pends_seen : (m : Mem) (v : Hands R) (x : Pending) (child found : ℕ) → Stays m.cell m.head m.full v.looks
-      → MaySee (meaning_of rules) room v x child
-      → ArePending (meaning_of rules) room m.cell m.next v.looks v.rights v.pending
-      → ArePending (meaning_of rules) room m.cell m.next ((head_word child, found) ∷ v.looks) v.rights
+      → MaySee (meaning_of rules) capacity v x child
+      → ArePending (meaning_of rules) capacity m.cell m.next v.looks v.rights v.pending
+      → ArePending (meaning_of rules) capacity m.cell m.next ((head_word child, found) ∷ v.looks) v.rights
       (Some (record { waiter = x.waiter; child = child; seen = Some found; linked = false }))
   pends_seen m v x child found stays may old =
       let meaning : Meaning = meaning_of rules in
-      let was = pending_at meaning room m.cell m.next v.looks v.rights v.pending x may.is old in
+      let was = pending_at meaning capacity m.cell m.next v.looks v.rights v.pending x may.is old in
       let goal : m.cell (x.waiter / 8) ≡ may.goal = stays.cells (x.waiter / 8) may.goal may.goal_stands may.some_goal in
       let other : m.cell child ≡ may.other = stays.cells child may.other may.other_stands may.some_other in
       record {
@@ -107,8 +108,8 @@ module _ {R : Type 0} (meaning_of : R → Meaning) (rules : R) (room : ℕ) wher
       }
 
   see_at : (slots id : ℕ) (me : Sat R) (x : Pending) (child : ℕ) → 0 < me.0.parts
-      → MaySee (meaning_of rules) room me.0 x child
-      → Allows (Holds meaning_of rules room) slots id me (head_word child) (λ n. n)
+      → MaySee (meaning_of rules) capacity me.0 x child
+      → Allows (Holds meaning_of rules capacity) slots id me (head_word child) (λ n. n)
       (TellsSeeHead meaning_of (step slots (head_word child) 0 0 none) me)
   see_at slots id me x child some_part may s sound homes mine fits =
       let i : ℕ = head_word child in
@@ -119,7 +120,8 @@ module _ {R : Type 0} (meaning_of : R → Meaning) (rules : R) (room : ℕ) wher
         head_seen v x child found,
         keeps,
         tt,
-        subst (λ (ws : List ℕ). IsSound (meaning_of rules) rules room ws (set s.views id (head_seen v x child found)))
+        subst (λ (ws : List ℕ). IsSound (meaning_of rules) rules capacity ws
+            (set s.views id (head_seen v x child found)))
             (sym (set-get_or s.words i 0))
             (wait_look_keeps s.words s.views id v i (Some
             (record { waiter = x.waiter; child = child; seen = Some found; linked = false })) v.walk sound mine
@@ -135,7 +137,7 @@ module _ {R : Type 0} (meaning_of : R → Meaning) (rules : R) (room : ℕ) wher
             (record {
               hands = record {
                 hands_are = refl;
-                moment = moment_of meaning_of rules room s.words s.views id v i sound mine some_part;
+                moment = moment_of meaning_of rules capacity s.words s.views id v i sound mine some_part;
               };
               slots = refl;
             }),
@@ -143,16 +145,17 @@ module _ {R : Type 0} (meaning_of : R → Meaning) (rules : R) (room : ℕ) wher
 
   -- a load of a child's head, by a seat that puts a wait in
   pub see_allowed : (slots id : ℕ) (me : Sat R) (i : ℕ) (x : Pending) (child : ℕ) → i ≡ head_word child → HasPart me.0
-      → MaySee (meaning_of rules) room me.0 x child
-      → Allows (Holds meaning_of rules room) slots id me i (λ n. n) (TellsSeeHead meaning_of (step slots i 0 0 none) me)
+      → MaySee (meaning_of rules) capacity me.0 x child
+      → Allows (Holds meaning_of rules capacity) slots id me i (λ n. n)
+      (TellsSeeHead meaning_of (step slots i 0 0 none) me)
   see_allowed slots id me i x child is some_part may =
-      subst (λ j. Allows (Holds meaning_of rules room) slots id me j (λ n. n)
+      subst (λ j. Allows (Holds meaning_of rules capacity) slots id me j (λ n. n)
       (TellsSeeHead meaning_of (step slots j 0 0 none) me)) (sym is) (see_at slots id me x child some_part may)
 
   -- the next word that was read names the waiter after the first
   walked_read : (m : Mem) (walk : Walk) (waiter : ℕ) (others : List ℕ) → walk.waiters ≡ waiter ∷ others
-      → IsWalked (meaning_of rules) room m.cell m.head m.next walk
-      → IsWalked (meaning_of rules) room m.cell m.head m.next
+      → IsWalked (meaning_of rules) capacity m.cell m.head m.next walk
+      → IsWalked (meaning_of rules) capacity m.cell m.head m.next
       (record { child = walk.child; waiters = walk.waiters; next = Some (m.next waiter) })
   walked_read m walk waiter others is old = record {
     chained = old.chained;
@@ -164,7 +167,7 @@ module _ {R : Type 0} (meaning_of : R → Meaning) (rules : R) (room : ℕ) wher
   }
 
   read_at : (slots id : ℕ) (me : Sat R) (waiter : ℕ) → 0 < me.0.parts → MayWalk me.0 waiter
-      → Allows (Holds meaning_of rules room) slots id me (next_word waiter) (λ n. n)
+      → Allows (Holds meaning_of rules capacity) slots id me (next_word waiter) (λ n. n)
       (TellsReadNext meaning_of (step slots (next_word waiter) 0 0 none) me)
   read_at slots id me waiter some_part may s sound homes mine fits =
       let i : ℕ = next_word waiter in
@@ -175,11 +178,13 @@ module _ {R : Type 0} (meaning_of : R → Meaning) (rules : R) (room : ℕ) wher
         next_read v waiter found,
         keeps,
         tt,
-        subst (λ (ws : List ℕ). IsSound (meaning_of rules) rules room ws (set s.views id (next_read v waiter found)))
+        subst (λ (ws : List ℕ). IsSound (meaning_of rules) rules capacity ws
+            (set s.views id (next_read v waiter found)))
             (sym (set-get_or s.words i 0))
             (wait_look_keeps s.words s.views id v i v.pending
             (record { child = v.walk.child; waiters = v.walk.waiters; next = Some found }) sound mine some_part
-            refl refl (pending_looked (meaning_of rules) room (mem s.words).cell (mem s.words).next (i, found) v.looks
+            refl refl (pending_looked (meaning_of rules) capacity (mem s.words).cell (mem s.words).next (i, found)
+            v.looks
             v.rights v.pending own.pends)
             (walked_read (mem s.words) v.walk waiter may.others may.first own.walked)),
         λ q same.
@@ -188,16 +193,18 @@ module _ {R : Type 0} (meaning_of : R → Meaning) (rules : R) (room : ℕ) wher
             (record {
               hands = record {
                 hands_are = refl;
-                moment = moment_of meaning_of rules room s.words s.views id v i sound mine some_part;
+                moment = moment_of meaning_of rules capacity s.words s.views id v i sound mine some_part;
               };
               slots = refl;
             }),
       )
 
   -- a load of the first waiter's next word, by the seat that walks
-  pub read_allowed : (slots id : ℕ) (me : Sat R) (i waiter : ℕ) → i ≡ next_word waiter → HasPart me.0 → MayWalk me.0 waiter
-      → Allows (Holds meaning_of rules room) slots id me i (λ n. n) (TellsReadNext meaning_of (step slots i 0 0 none) me)
+  pub read_allowed : (slots id : ℕ) (me : Sat R) (i waiter : ℕ) → i ≡ next_word waiter → HasPart me.0
+      → MayWalk me.0 waiter
+      → Allows (Holds meaning_of rules capacity) slots id me i (λ n. n)
+      (TellsReadNext meaning_of (step slots i 0 0 none) me)
   read_allowed slots id me i waiter is some_part may =
-      subst (λ j. Allows (Holds meaning_of rules room) slots id me j (λ n. n)
+      subst (λ j. Allows (Holds meaning_of rules capacity) slots id me j (λ n. n)
       (TellsReadNext meaning_of (step slots j 0 0 none) me)) (sym is)
       (read_at slots id me waiter some_part may)

@@ -25,30 +25,30 @@ use Rattle.board_rule.proofs.Raised.{count_one, count_none, raised_at, raised_el
 use Rattle.board_rule.proofs.Looking.{Holds}
 
 -- the seat has the right to the goal, with fewer than eight waits, and puts no other wait in
-record MayWait {R : Type 0} (room : ℕ) (v : Hands R) (place : ℕ) : Type 0 where
-  pub has : HasRight room v.rights place
+record MayWait {R : Type 0} (capacity : ℕ) (v : Hands R) (place : ℕ) : Type 0 where
+  pub has : HasRight capacity v.rights place
   pub fewer : waits_at place v.rights < 8
   pub free : v.pending ≡ None
 
 -- a goal of which a wait bit was set is held as before
-rights_begun : {R : Type 0} (room : ℕ) (m : Mem) (views : List (Hands R)) (id : ℕ) (v : Hands R) (place : ℕ)
-    → get_elem? views id ≡ some v → MayWait room v place
-    → KeepsRights room m.run m.head views
-    → KeepsRights room (put m.run place (bit_or (m.run place) (2 ^ waits_at place v.rights))) m.head
+rights_begun : {R : Type 0} (capacity : ℕ) (m : Mem) (views : List (Hands R)) (id : ℕ) (v : Hands R) (place : ℕ)
+    → get_elem? views id ≡ some v → MayWait capacity v place
+    → KeepsRights capacity m.run m.head views
+    → KeepsRights capacity (put m.run place (bit_or (m.run place) (2 ^ waits_at place v.rights))) m.head
     (set views id (wait_begun v place (m.run place)))
-rights_begun room m views id v place mine may old =
+rights_begun capacity m views id v place mine may old =
     let b : ℕ = waits_at place v.rights in
     let x : ℕ = bit_or (m.run place) (2 ^ b) in
     let w = wait_begun v place (m.run place) in
     let few = may.fewer in
     let near = may.has.near in
     let was = old place near in
-    let is = held_by room m.run m.head views id v place mine may.has old in
+    let is = held_by capacity m.run m.head views id v place mine may.has old in
     let h : held (set views id w) place ≡ held views place =
     total_same (λ (u : Hands _). rights_at place u.rights) views id v w mine refl in
     let d : ended (set views id w) place ≡ ended views place =
     total_same (λ (u : Hands _). done_at place u.done) views id v w mine refl in
-    rights_moved views id v w mine room m.run m.head (put m.run place x) m.head place
+    rights_moved views id v w mine capacity m.run m.head (put m.run place x) m.head place
     (λ _ _. refl) (λ _ _. refl) (λ p ne. put_else m.run place x p ne) (λ _ _. refl)
     (record {
       once = omega (arith, h, d, was.once);
@@ -63,12 +63,13 @@ rights_begun room m views id v place mine may old =
     old
 
 -- the waiter stands in the seat's hands, and its bit is set
-waits_begun : {R : Type 0} (meaning : Meaning) (room : ℕ) (m : Mem) (views : List (Hands R)) (id : ℕ) (v w : Hands R)
-    (place b : ℕ) → get_elem? views id ≡ some v → place < room → b < 8
+waits_begun : {R : Type 0} (meaning : Meaning) (capacity : ℕ) (m : Mem) (views : List (Hands R)) (id : ℕ)
+    (v w : Hands R)
+    (place b : ℕ) → get_elem? views id ≡ some v → place < capacity → b < 8
     → bit_at (m.run place) b ≡ 0 → in_hand w.pending w.walk ≡ (8 * place + b) ∷ in_hand v.pending v.walk
-    → KeepsWaits meaning room m.cell m.run m.head m.next views
-    → KeepsWaits meaning room m.cell (put m.run place (bit_or (m.run place) (2 ^ b))) m.head m.next (set views id w)
-waits_begun meaning room m views id v w place b mine near few unset one_more old = record {
+    → KeepsWaits meaning capacity m.cell m.run m.head m.next views
+    → KeepsWaits meaning capacity m.cell (put m.run place (bit_or (m.run place) (2 ^ b))) m.head m.next (set views id w)
+waits_begun meaning capacity m views id v w place b mine near few unset one_more old = record {
   lists = old.lists;
   none_left = old.none_left;
   heads = old.heads;
@@ -134,13 +135,14 @@ raised_begun run place b rights within =
     x : ℕ
     x = bit_or (run place) (2 ^ b)
 
-module _ {R : Type 0} (meaning_of : R → Meaning) (rules : R) (room : ℕ) where
+module _ {R : Type 0} (meaning_of : R → Meaning) (rules : R) (capacity : ℕ) where
   -- a board is sound once a seat has set the bit of its right's next wait
   begin_keeps : (words : List ℕ) (views : List (Hands R)) (id : ℕ) (v : Hands R) (place : ℕ)
-      → IsSound (meaning_of rules) rules room words views → get_elem? views id ≡ some v
-      → 0 < v.parts → MayWait room v place
+      → IsSound (meaning_of rules) rules capacity words views → get_elem? views id ≡ some v
+      → 0 < v.parts → MayWait capacity v place
       → let found = get_or words (run_word place) 0 in
-      IsSound (meaning_of rules) rules room (set words (run_word place) (bit_or found (2 ^ waits_at place v.rights)))
+      IsSound (meaning_of rules) rules capacity (set words (run_word place)
+      (bit_or found (2 ^ waits_at place v.rights)))
       (set views id (wait_begun v place found))
   begin_keeps words views id v place sound mine some_part may =
       let meaning : Meaning = meaning_of rules in
@@ -153,17 +155,18 @@ module _ {R : Type 0} (meaning_of : R → Meaning) (rules : R) (room : ℕ) wher
       let own = k.hands id v mine in
       let near = may.has.near in
       let within = may.fewer in
-      let is = held_by room m.run m.head views id v place mine may.has k.rights in
+      let is = held_by capacity m.run m.head views id v place mine may.has k.rights in
       let raised : Each (IsRaised m.run None) v.rights =
       subst (λ o. Each (IsRaised m.run o) v.rights) may.free own.raised in
       let unset : bit_at (m.run place) b ≡ 0 =
       (raised_at m.run None place v.rights may.has.held raised).1 b (omega arith) within in
       let at : (8 * place + b) / 8 ≡ place = omega arith in
       let bit : (8 * place + b) % 8 ≡ b = omega arith in
-      run_step_keeps meaning_of rules room words views id v w place (m.run place) x sound mine some_part near (record {
-        blank = blank_running meaning room m place x (bit_runs (m.run place) 8 (omega (arith, is.runs))) k.blank;
-        rights = rights_begun room m views id v place mine may k.rights;
-        waits = waits_begun meaning room m views id v w place b mine near within unset
+      run_step_keeps meaning_of rules capacity words views id v w place (m.run place) x sound mine some_part near
+      (record {
+        blank = blank_running meaning capacity m place x (bit_runs (m.run place) 8 (omega (arith, is.runs))) k.blank;
+        rights = rights_begun capacity m views id v place mine may k.rights;
+        waits = waits_begun meaning capacity m views id v w place b mine near within unset
             (ap (λ o. (8 * place + b) ∷ in_hand o v.walk) (sym may.free)) k.waits;
         others = λ other u ne there h.
             let both = terms_le (λ (y : Hands R). rights_at place y.rights) views id other v u ne mine there in
@@ -173,7 +176,7 @@ module _ {R : Type 0} (meaning_of : R → Meaning) (rules : R) (room : ℕ) wher
         ends = own.ends;
         raised = raised_begun m.run place b v.rights within raised;
         pends = record {
-          has = subst (HasRight room v.rights) (sym at) may.has;
+          has = subst (HasRight capacity v.rights) (sym at) may.has;
           its_wait = ap (λ p. waits_at p v.rights) at ∙ sym bit;
           seen = λ head e. let no : ⊥ = cc in absurd no;
           looked = λ head e. let no : ⊥ = cc in absurd no;
@@ -182,23 +185,23 @@ module _ {R : Type 0} (meaning_of : R → Meaning) (rules : R) (room : ℕ) wher
       })
 
   begin_at : (slots id : ℕ) (me : Sat R) (r : Claimed) (mask : ℕ) → mask ≡ 2 ^ r.waits → 0 < me.0.parts
-      → MayBegin room me.0 r
-      → Allows (Holds meaning_of rules room) slots id me (run_word r.place) (λ n. bit_or n mask)
+      → MayBegin capacity me.0 r
+      → Allows (Holds meaning_of rules capacity) slots id me (run_word r.place) (λ n. bit_or n mask)
       (TellsBeginWait meaning_of (step slots (run_word r.place) mask 0 none) me)
   begin_at slots id me r mask is_mask some_part may s sound homes mine fits =
       let found : ℕ = get_or s.words (run_word r.place) 0 in
-      let has : HasRight room me.0.rights r.place =
+      let has : HasRight capacity me.0.rights r.place =
       record { near = may.near; held = among_counts (λ (q : Claimed). q.place) me.0.rights r may.held } in
-      let is = held_by room (mem s.words).run (mem s.words).head s.views id me.0 r.place mine has
+      let is = held_by capacity (mem s.words).run (mem s.words).head s.views id me.0 r.place mine has
       sound.by_kinds.rights in
       let waits : waits_at r.place me.0.rights ≡ r.waits =
       waits_known me.0.rights r (omega (arith, is.right_once)) may.held in
-      let full_may : MayWait room me.0 r.place =
+      let full_may : MayWait capacity me.0 r.place =
       record { has = has; fewer = subst (λ n. n < 8) (sym waits) may.fewer; free = may.free } in (
         wait_begun me.0 r.place found,
         keeps,
         tt,
-        subst (λ k. IsSound (meaning_of rules) rules room (set s.words (run_word r.place) (bit_or found k))
+        subst (λ k. IsSound (meaning_of rules) rules capacity (set s.words (run_word r.place) (bit_or found k))
             (set s.views id (wait_begun me.0 r.place found))) (ap (λ n. 2 ^ n) waits ∙ sym is_mask)
             (begin_keeps s.words s.views id me.0 r.place sound mine some_part full_may),
         λ p same. let e : r.place ≡ p = omega (arith, same) in
@@ -206,7 +209,8 @@ module _ {R : Type 0} (meaning_of : R → Meaning) (rules : R) (room : ℕ) wher
             (record {
               hands = record {
                 hands_are = refl;
-                moment = moment_of meaning_of rules room s.words s.views id me.0 (run_word r.place) sound mine some_part;
+                moment = moment_of meaning_of rules capacity s.words s.views id me.0 (run_word r.place) sound mine
+                    some_part;
               };
               slots = refl;
             }),
@@ -214,10 +218,10 @@ module _ {R : Type 0} (meaning_of : R → Meaning) (rules : R) (room : ℕ) wher
 
   -- the holder of a right sets the bit of its next wait
   pub begin_allowed : (slots id : ℕ) (me : Sat R) (i : ℕ) (r : Claimed) (mask : ℕ) → i ≡ run_word r.place
-      → mask ≡ 2 ^ r.waits → HasPart me.0 → MayBegin room me.0 r
-      → Allows (Holds meaning_of rules room) slots id me i (λ n. bit_or n mask)
+      → mask ≡ 2 ^ r.waits → HasPart me.0 → MayBegin capacity me.0 r
+      → Allows (Holds meaning_of rules capacity) slots id me i (λ n. bit_or n mask)
       (TellsBeginWait meaning_of (step slots i mask 0 none) me)
   begin_allowed slots id me i r mask is is_mask some_part may =
-      subst (λ j. Allows (Holds meaning_of rules room) slots id me j (λ n. bit_or n mask)
+      subst (λ j. Allows (Holds meaning_of rules capacity) slots id me j (λ n. bit_or n mask)
       (TellsBeginWait meaning_of (step slots j mask 0 none) me)) (sym is)
       (begin_at slots id me r mask is_mask some_part may)

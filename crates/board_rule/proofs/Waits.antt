@@ -31,17 +31,18 @@ pub handed_same : {R : Type 0} (views : List (Hands R)) (id : ℕ) (v w : Hands 
 handed_same views id v w mine same q = total_same (λ (u : Hands _). count q (in_hand u.pending u.walk)) views id v w
     mine (ap (count q) same)
 
-module _ {R : Type 0} (meaning : Meaning) (room : ℕ) (cell head next : ℕ → ℕ) where
+module _ {R : Type 0} (meaning : Meaning) (capacity : ℕ) (cell head next : ℕ → ℕ) where
   pub waits_as : (run new_run : ℕ → ℕ) (old_views new_views : List (Hands R)) → SameBits run new_run
       → ((q : ℕ) → handed new_views q ≡ handed old_views q)
-      → KeepsWaits meaning room cell run head next old_views → KeepsWaits meaning room cell new_run head next new_views
+      → KeepsWaits meaning capacity cell run head next old_views
+      → KeepsWaits meaning capacity cell new_run head next new_views
   waits_as run new_run old_views new_views same hands old = record {
     lists = old.lists;
     none_left = old.none_left;
     heads = old.heads;
     chains = old.chains;
     joined = old.joined;
-    once = λ q. let few : q % 8 < 8 = omega arith in ap (λ n. below (λ c. count q (old.lists c)) room + n) (hands q)
+    once = λ q. let few : q % 8 < 8 = omega arith in ap (λ n. below (λ c. count q (old.lists c)) capacity + n) (hands q)
         ∙ old.once q ∙ sym (same (q / 8) (q % 8) few);
     near = λ q set_bit. let few : q % 8 < 8 = omega arith in
         old.near q (subst (λ n. 1 ≤ n) (same (q / 8) (q % 8) few) set_bit);
@@ -50,19 +51,20 @@ module _ {R : Type 0} (meaning : Meaning) (room : ℕ) (cell head next : ℕ →
   -- the waits stay where one seat has other hands, with the same waiters
   pub waits_stay : (run : ℕ → ℕ) (views : List (Hands R)) (id : ℕ) (v w : Hands R) → get_elem? views id ≡ some v
       → in_hand w.pending w.walk ≡ in_hand v.pending v.walk
-      → KeepsWaits meaning room cell run head next views → KeepsWaits meaning room cell run head next (set views id w)
+      → KeepsWaits meaning capacity cell run head next views
+      → KeepsWaits meaning capacity cell run head next (set views id w)
   waits_stay run views id v w mine same =
       waits_as run run views (set views id w) (λ p b few. refl) (handed_same views id v w mine same)
 
   -- a waiter in a list has its bit set
-  pub listed_waits : (run : ℕ → ℕ) (views : List (Hands R)) (old : KeepsWaits meaning room cell run head next views)
-      (c q : ℕ) → c < room → 1 ≤ count q (old.lists c) → 1 ≤ wait_bit run q
+  pub listed_waits : (run : ℕ → ℕ) (views : List (Hands R)) (old : KeepsWaits meaning capacity cell run head next views)
+      (c q : ℕ) → c < capacity → 1 ≤ count q (old.lists c) → 1 ≤ wait_bit run q
   listed_waits run views old c q near at =
-      let term = below_term (λ c. count q (old.lists c)) room c near in let once = old.once q in omega arith
+      let term = below_term (λ c. count q (old.lists c)) capacity c near in let once = old.once q in omega arith
 
   -- and so has one in a seat's hands
   pub handed_waits : (run : ℕ → ℕ) (views : List (Hands R)) (id : ℕ) (v : Hands R) → get_elem? views id ≡ some v
-      → KeepsWaits meaning room cell run head next views
+      → KeepsWaits meaning capacity cell run head next views
       → (q : ℕ) → 1 ≤ count q (in_hand v.pending v.walk) → 1 ≤ wait_bit run q
   handed_waits run views id v mine old q at =
       let term = term_le (λ (u : Hands R). count q (in_hand u.pending u.walk)) views id v mine in let once =
@@ -76,23 +78,24 @@ raised_as run new_run pending rights same =
     (λ r old. record { few = old.few; others = λ b more few. same r.place b few ∙ old.others b more few }) rights
 
 -- a wait that is being put in, once something else has changed
-pub pending_as : (meaning : Meaning) (room : ℕ) (cell next new_cell new_next : ℕ → ℕ) (looks new_looks : List (ℕ × ℕ))
+pub pending_as : (meaning : Meaning) (capacity : ℕ) (cell next new_cell new_next : ℕ → ℕ)
+    (looks new_looks : List (ℕ × ℕ))
     (rights new_rights : List Claimed) (pending : Option Pending)
-    → ((x : Pending) → pending ≡ Some x → IsPending meaning room cell next looks rights x
-    → IsPending meaning room new_cell new_next new_looks new_rights x)
-    → ArePending meaning room cell next looks rights pending
-    → ArePending meaning room new_cell new_next new_looks new_rights pending
-pending_as meaning room cell next new_cell new_next looks new_looks rights new_rights None follows old = tt
-pending_as meaning room cell next new_cell new_next looks new_looks rights new_rights (Some x) follows old =
+    → ((x : Pending) → pending ≡ Some x → IsPending meaning capacity cell next looks rights x
+    → IsPending meaning capacity new_cell new_next new_looks new_rights x)
+    → ArePending meaning capacity cell next looks rights pending
+    → ArePending meaning capacity new_cell new_next new_looks new_rights pending
+pending_as meaning capacity cell next new_cell new_next looks new_looks rights new_rights None follows old = tt
+pending_as meaning capacity cell next new_cell new_next looks new_looks rights new_rights (Some x) follows old =
     follows x refl old
 
 -- a wait that is being put in, after one look more
-pub pending_looked : (meaning : Meaning) (room : ℕ) (cell next : ℕ → ℕ) (look : ℕ × ℕ) (looks : List (ℕ × ℕ))
+pub pending_looked : (meaning : Meaning) (capacity : ℕ) (cell next : ℕ → ℕ) (look : ℕ × ℕ) (looks : List (ℕ × ℕ))
     (rights : List Claimed) (pending : Option Pending)
-    → ArePending meaning room cell next looks rights pending
-    → ArePending meaning room cell next (look ∷ looks) rights pending
-pending_looked meaning room cell next look looks rights pending =
-    pending_as meaning room cell next cell next looks (look ∷ looks) rights rights pending
+    → ArePending meaning capacity cell next looks rights pending
+    → ArePending meaning capacity cell next (look ∷ looks) rights pending
+pending_looked meaning capacity cell next look looks rights pending =
+    pending_as meaning capacity cell next cell next looks (look ∷ looks) rights rights pending
     (λ x is old. record {
       has = old.has;
       its_wait = old.its_wait;
@@ -101,12 +104,12 @@ pending_looked meaning room cell next look looks rights pending =
     })
 
 -- the wait that is being put in
-pub pending_at : (meaning : Meaning) (room : ℕ) (cell next : ℕ → ℕ) (looks : List (ℕ × ℕ)) (rights : List Claimed)
+pub pending_at : (meaning : Meaning) (capacity : ℕ) (cell next : ℕ → ℕ) (looks : List (ℕ × ℕ)) (rights : List Claimed)
     (pending : Option Pending) (x : Pending)
-    → pending ≡ Some x → ArePending meaning room cell next looks rights pending
-    → IsPending meaning room cell next looks rights x
-pending_at meaning room cell next looks rights pending x is old =
-    subst (ArePending meaning room cell next looks rights) is old
+    → pending ≡ Some x → ArePending meaning capacity cell next looks rights pending
+    → IsPending meaning capacity cell next looks rights x
+pending_at meaning capacity cell next looks rights pending x is old =
+    subst (ArePending meaning capacity cell next looks rights) is old
 
 -- a new run word at one place, with the wait bits of the old one
 pub same_bits_put : (run : ℕ → ℕ) (place x : ℕ) → ((b : ℕ) → b < 8 → bit_at x b ≡ bit_at (run place) b)
@@ -116,12 +119,12 @@ same_bits_put run place x same p b few =
     ∙ ap (λ q. bit_at (run q) b) (sym here)) (λ _. refl)
 
 -- a seat puts no wait in for a goal to which it has no right
-pub none_pending : (meaning : Meaning) (room : ℕ) (cell next : ℕ → ℕ) (looks : List (ℕ × ℕ)) (rights : List Claimed)
+pub none_pending : (meaning : Meaning) (capacity : ℕ) (cell next : ℕ → ℕ) (looks : List (ℕ × ℕ)) (rights : List Claimed)
     (pending : Option Pending) (place b : ℕ)
-    → b < 8 → rights_at place rights ≡ 0 → ArePending meaning room cell next looks rights pending
+    → b < 8 → rights_at place rights ≡ 0 → ArePending meaning capacity cell next looks rights pending
     → count (8 * place + b) (waiting pending) ≡ 0
-none_pending meaning room cell next looks rights None place b few none_of old = refl
-none_pending meaning room cell next looks rights (Some x) place b few none_of old =
+none_pending meaning capacity cell next looks rights None place b few none_of old = refl
+none_pending meaning capacity cell next looks rights (Some x) place b few none_of old =
     let ne : x.waiter ≢ 8 * place + b = λ e.
     let at : x.waiter / 8 ≡ place = omega arith in
     let held = subst (λ p. 1 ≤ rights_at p rights) at old.has.held in
@@ -144,21 +147,21 @@ head_some : (l : List ℕ) (q : ℕ) → Among l q → 1 ≤ head_of l
 head_some [] q at = absurd at
 head_some (p ∷ ps) q at = omega arith
 
-module _ {R : Type 0} (meaning : Meaning) (room : ℕ) (m : Mem) (views : List (Hands R))
-    (blank : KeepsBlank meaning room m)
-    (waits : KeepsWaits meaning room m.cell m.run m.head m.next views) where
+module _ {R : Type 0} (meaning : Meaning) (capacity : ℕ) (m : Mem) (views : List (Hands R))
+    (blank : KeepsBlank meaning capacity m)
+    (waits : KeepsWaits meaning capacity m.cell m.run m.head m.next views) where
   -- a goal whose wait bit is set stands in its cell
   pub waiter_stands : (q : ℕ) → 1 ≤ wait_bit m.run q → m.cell (q / 8) ≢ 0
-  waiter_stands q set_bit = held_stands meaning room m (q / 8) blank (waits.near q set_bit)
+  waiter_stands q set_bit = held_stands meaning capacity m (q / 8) blank (waits.near q set_bit)
       (bit_runs (m.run (q / 8)) (q % 8) set_bit)
 
   -- a goal with a waiter stands in its cell, and is not finished
-  pub waited_open : (c q : ℕ) → c < room → Among (waits.lists c) q → m.head c < 2 ^ 63
+  pub waited_open : (c q : ℕ) → c < capacity → Among (waits.lists c) q → m.head c < 2 ^ 63
   waited_open c q near at =
       ⊎_elim (λ lt. lt) (λ closed. absurd (subst (λ l. Among l q) (waits.none_left c near closed) at))
       (cases_lt (m.head c) (2 ^ 63))
 
-  pub waited_stands : (c q : ℕ) → c < room → Among (waits.lists c) q → m.cell c ≢ 0
+  pub waited_stands : (c q : ℕ) → c < capacity → Among (waits.lists c) q → m.cell c ≢ 0
   waited_stands c q near at none =
       let is = waits.heads c near (waited_open c q near at) in
       let zero_head = (blank c near (λ holds. holds.0 none)).head in
@@ -166,14 +169,14 @@ module _ {R : Type 0} (meaning : Meaning) (room : ℕ) (m : Mem) (views : List (
       absurd (omega arith)
 
   -- a waiter of a list stands in its cell
-  pub listed_stands : (c q : ℕ) → c < room → Among (waits.lists c) q → m.cell (q / 8) ≢ 0
+  pub listed_stands : (c q : ℕ) → c < capacity → Among (waits.lists c) q → m.cell (q / 8) ≢ 0
   listed_stands c q near at = waiter_stands q
-      (listed_waits meaning room m.cell m.head m.next m.run views waits c q near
+      (listed_waits meaning capacity m.cell m.head m.next m.run views waits c q near
       (among_counts (λ (p : ℕ). p) (waits.lists c) q at))
 
   -- so does one in a seat's hands
   pub handed_stands : (id : ℕ) (v : Hands R) → get_elem? views id ≡ some v → (q : ℕ)
       → Among (in_hand v.pending v.walk) q → m.cell (q / 8) ≢ 0
   handed_stands id v mine q at =
-      waiter_stands q (handed_waits meaning room m.cell m.head m.next m.run views id v mine waits q
+      waiter_stands q (handed_waits meaning capacity m.cell m.head m.next m.run views id v mine waits q
       (among_counts (λ (p : ℕ). p) (in_hand v.pending v.walk) q at))

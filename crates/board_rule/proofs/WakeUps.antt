@@ -46,15 +46,15 @@ count_among q [] more = absurd (omega arith)
 count_among q (p ∷ ps) more =
     ⊎_elim (λ e. inl e) (λ ne. inr (count_among q ps (omega (arith, counts_none p q ne)))) (cases_eq p q)
 
-module _ {R : Type 0} (meaning : Meaning) (rules : R) (room : ℕ) (m : Mem) (views : List (Hands R))
-    (sound : IsSoundBy meaning rules room m views)
+module _ {R : Type 0} (meaning : Meaning) (rules : R) (capacity : ℕ) (m : Mem) (views : List (Hands R))
+    (sound : IsSoundBy meaning rules capacity m views)
     (no_right : (p : ℕ) → held views p ≡ 0) (no_hand : (q : ℕ) → handed views q ≡ 0)
     (goals : (goal child : ℕ) → meaning.entry goal → meaning.child goal child → IsTrue (meaning.goal child))
     (rank : ℕ → ℕ) (falls : (goal child : ℕ) → meaning.child goal child → rank child < rank goal)
-    (none_ready : (p : ℕ) → p < room → HoldsGoal meaning room m.cell p → m.run p ≢ 0) where
+    (none_ready : (p : ℕ) → p < capacity → HoldsGoal meaning capacity m.cell p → m.run p ≢ 0) where
   -- a goal that is neither ready nor finished waits for a child that is not finished
-  waits_for : (p : ℕ) → p < room → HoldsGoal meaning room m.cell p → ended views p ≡ 0
-      → (c : ℕ) × (c < room) × HoldsGoal meaning room m.cell c × (m.head c < 2 ^ 63)
+  waits_for : (p : ℕ) → p < capacity → HoldsGoal meaning capacity m.cell p → ended views p ≡ 0
+      → (c : ℕ) × (c < capacity) × HoldsGoal meaning capacity m.cell c × (m.head c < 2 ^ 63)
       × meaning.child (m.cell p) (m.cell c)
   waits_for p near holds unfinished =
       let was = sound.rights p near in
@@ -66,7 +66,7 @@ module _ {R : Type 0} (meaning : Meaning) (rules : R) (room : ℕ) (m : Mem) (vi
       let at : q / 8 ≡ p = omega arith in
       let bit : q % 8 ≡ b = omega arith in
       let set_bit : 1 ≤ wait_bit m.run q = subst (λ n. 1 ≤ n) (sym (λ i. bit_at (m.run (at i)) (bit i))) t.2 in
-      let listed = below_some (λ c. count q (sound.waits.lists c)) room
+      let listed = below_some (λ c. count q (sound.waits.lists c)) capacity
       (omega (arith, sound.waits.once q, no_hand q)) in
       let c = listed.0 in
       let among = count_among q (sound.waits.lists c) listed.2 in
@@ -76,10 +76,10 @@ module _ {R : Type 0} (meaning : Meaning) (rules : R) (room : ℕ) (m : Mem) (vi
         c,
         listed.1,
         (
-          waited_stands meaning room m views sound.blank sound.waits c q listed.1 among,
+          waited_stands meaning capacity m views sound.blank sound.waits c q listed.1 among,
           goals (m.cell p) (m.cell c) (sound.cells.enter p near holds.0) is,
         ),
-        waited_open meaning room m views sound.blank sound.waits c q listed.1 among,
+        waited_open meaning capacity m views sound.blank sound.waits c q listed.1 among,
         is,
       ))
       (λ none_of. absurd (none_ready p near holds (same_from_bits (m.run p) 0 (λ i.
@@ -92,7 +92,8 @@ module _ {R : Type 0} (meaning : Meaning) (rules : R) (room : ℕ) (m : Mem) (vi
       (cases_lt i 8)))))
       (some_bit (m.run p) 8)
 
-  finished_below : (n p : ℕ) → p < room → HoldsGoal meaning room m.cell p → rank (m.cell p) < n → 2 ^ 63 ≤ m.head p
+  finished_below : (n p : ℕ) → p < capacity → HoldsGoal meaning capacity m.cell p → rank (m.cell p) < n
+      → 2 ^ 63 ≤ m.head p
   finished_below zero p near holds less = absurd (omega arith)
   finished_below (suc n) p near holds less =
       let was = sound.rights p near in
@@ -107,7 +108,7 @@ module _ {R : Type 0} (meaning : Meaning) (rules : R) (room : ℕ) (m : Mem) (vi
       (cases_lt (ended views p) 1)
 
   -- every goal in the cells is finished
-  pub all_finished : (p : ℕ) → p < room → HoldsGoal meaning room m.cell p → 2 ^ 63 ≤ m.head p
+  pub all_finished : (p : ℕ) → p < capacity → HoldsGoal meaning capacity m.cell p → 2 ^ 63 ≤ m.head p
   all_finished p near holds = finished_below (rank (m.cell p) + 1) p near holds (omega arith)
 
 -- a sum over seats of which all but one add nothing
@@ -133,62 +134,64 @@ total_only f (x ∷ xs) (suc j) v at others =
     )
 
 -- where one seat has all parts, the others are spent
-pub others_spent : {R : Type 0} (meaning : Meaning) (rules : R) (room : ℕ) (m : Mem) (views : List (Hands R)) (id : ℕ)
-    (v : Hands R) → IsSoundBy meaning rules room m views → get_elem? views id ≡ some v
+pub others_spent : {R : Type 0} (meaning : Meaning) (rules : R) (capacity : ℕ) (m : Mem) (views : List (Hands R))
+    (id : ℕ)
+    (v : Hands R) → IsSoundBy meaning rules capacity m views → get_elem? views id ≡ some v
     → v.parts ≡ 64 → (k : ℕ) (u : Hands R) → k ≢ id → get_elem? views k ≡ some u → u ≡ spent
-others_spent meaning rules room m views id v sound mine all k u ne there =
+others_spent meaning rules capacity m views id v sound mine all k u ne there =
     let both = terms_le (λ (h : Hands _). h.parts) views id k v u ne mine there in
     ⊎_elim (λ (e : u ≡ spent). e) (λ t. let some_part = t.0 in absurd (omega (arith, sound.parts)))
     (sound.hands k u there).awake
 
 -- so a sum over all seats is that seat's
-pub only_seat : {R : Type 0} (meaning : Meaning) (rules : R) (room : ℕ) (m : Mem) (views : List (Hands R)) (id : ℕ)
-    (v : Hands R) → IsSoundBy meaning rules room m views → get_elem? views id ≡ some v
+pub only_seat : {R : Type 0} (meaning : Meaning) (rules : R) (capacity : ℕ) (m : Mem) (views : List (Hands R)) (id : ℕ)
+    (v : Hands R) → IsSoundBy meaning rules capacity m views → get_elem? views id ≡ some v
     → v.parts ≡ 64 → (f : Hands R → ℕ) → f spent ≡ 0 → total f views ≡ f v
-only_seat meaning rules room m views id v sound mine all f none_spent =
+only_seat meaning rules capacity m views id v sound mine all f none_spent =
     total_only f views id v mine (λ k u ne there.
-    ap f (others_spent meaning rules room m views id v sound mine all k u ne there) ∙ none_spent)
+    ap f (others_spent meaning rules capacity m views id v sound mine all k u ne there) ∙ none_spent)
 
 -- where one seat has all parts, no right, no wait half put in and no list half walked, and no goal is ready, every goal
 -- in the cells is finished
-pub no_wake_up_lost : {R : Type 0} (meaning : Meaning) (rules : R) (room : ℕ) (m : Mem) (views : List (Hands R))
-    (id : ℕ) (v : Hands R) → IsSoundBy meaning rules room m views → get_elem? views id ≡ some v
+pub no_wake_up_lost : {R : Type 0} (meaning : Meaning) (rules : R) (capacity : ℕ) (m : Mem) (views : List (Hands R))
+    (id : ℕ) (v : Hands R) → IsSoundBy meaning rules capacity m views → get_elem? views id ≡ some v
     → v.parts ≡ 64 → v.rights ≡ [] → v.pending ≡ None → v.walk.waiters ≡ []
     → ((goal child : ℕ) → meaning.entry goal → meaning.child goal child → IsTrue (meaning.goal child))
     → (rank : ℕ → ℕ) → ((goal child : ℕ) → meaning.child goal child → rank child < rank goal)
-    → ((p : ℕ) → p < room → HoldsGoal meaning room m.cell p → m.run p ≢ 0)
-    → (p : ℕ) → p < room → HoldsGoal meaning room m.cell p → 2 ^ 63 ≤ m.head p
-no_wake_up_lost meaning rules room m views id v sound mine all no_right free walked goals rank falls none_ready =
-    all_finished meaning rules room m views sound
-    (λ p. only_seat meaning rules room m views id v sound mine all (λ (h : Hands _). rights_at p h.rights) refl
+    → ((p : ℕ) → p < capacity → HoldsGoal meaning capacity m.cell p → m.run p ≢ 0)
+    → (p : ℕ) → p < capacity → HoldsGoal meaning capacity m.cell p → 2 ^ 63 ≤ m.head p
+no_wake_up_lost meaning rules capacity m views id v sound mine all no_right free walked goals rank falls none_ready =
+    all_finished meaning rules capacity m views sound
+    (λ p. only_seat meaning rules capacity m views id v sound mine all (λ (h : Hands _). rights_at p h.rights) refl
     ∙ ap (rights_at p) no_right)
-    (λ q. only_seat meaning rules room m views id v sound mine all (λ (h : Hands _). count q (in_hand h.pending h.walk))
+    (λ q. only_seat meaning rules capacity m views id v sound mine all
+    (λ (h : Hands _). count q (in_hand h.pending h.walk))
     refl
     ∙ ap (λ o. count q (in_hand o v.walk)) free ∙ ap (count q) walked)
     goals rank falls none_ready
 
 -- a goal that is registered with a child is not ready while the child is not finished
-pub registered_not_ready : {R : Type 0} (meaning : Meaning) (room : ℕ) (m : Mem) (views : List (Hands R))
-    (waits : KeepsWaits meaning room m.cell m.run m.head m.next views)
-    (c q : ℕ) → c < room → 1 ≤ count q (waits.lists c) → m.run (q / 8) ≢ 0
-registered_not_ready meaning room m views waits c q near at =
-    bit_runs (m.run (q / 8)) (q % 8) (listed_waits meaning room m.cell m.head m.next m.run views waits c q near at)
+pub registered_not_ready : {R : Type 0} (meaning : Meaning) (capacity : ℕ) (m : Mem) (views : List (Hands R))
+    (waits : KeepsWaits meaning capacity m.cell m.run m.head m.next views)
+    (c q : ℕ) → c < capacity → 1 ≤ count q (waits.lists c) → m.run (q / 8) ≢ 0
+registered_not_ready meaning capacity m views waits c q near at =
+    bit_runs (m.run (q / 8)) (q % 8) (listed_waits meaning capacity m.cell m.head m.next m.run views waits c q near at)
 
 -- one of the places has a ready goal, or none has
-pub some_ready : (meaning : Meaning) (room : ℕ) (cell run : ℕ → ℕ) (n : ℕ)
-    → ((p : ℕ) × (p < n) × HoldsGoal meaning room cell p × (run p ≡ 0))
-    ⊎ ((p : ℕ) → p < n → HoldsGoal meaning room cell p → run p ≢ 0)
-some_ready meaning room cell run zero = inr (λ p less. absurd (omega arith))
-some_ready meaning room cell run (suc n) =
+pub some_ready : (meaning : Meaning) (capacity : ℕ) (cell run : ℕ → ℕ) (n : ℕ)
+    → ((p : ℕ) × (p < n) × HoldsGoal meaning capacity cell p × (run p ≡ 0))
+    ⊎ ((p : ℕ) → p < n → HoldsGoal meaning capacity cell p → run p ≢ 0)
+some_ready meaning capacity cell run zero = inr (λ p less. absurd (omega arith))
+some_ready meaning capacity cell run (suc n) =
     ⊎_elim
     (λ t. inl (t.0, omega (arith, t.1), t.2, t.3))
     (λ none_of. at (cases_eq (cell n) 0) (cases_eq (run n) 0) (meaning.goal (cell n)) refl none_of)
-    (some_ready meaning room cell run n)
+    (some_ready meaning capacity cell run n)
   where
     at : ((cell n ≡ 0) ⊎ (cell n ≢ 0)) → ((run n ≡ 0) ⊎ (run n ≢ 0)) → (b : Bool) → meaning.goal (cell n) ≡ b
-        → ((p : ℕ) → p < n → HoldsGoal meaning room cell p → run p ≢ 0)
-        → ((p : ℕ) × (p < suc n) × HoldsGoal meaning room cell p × (run p ≡ 0))
-        ⊎ ((p : ℕ) → p < suc n → HoldsGoal meaning room cell p → run p ≢ 0)
+        → ((p : ℕ) → p < n → HoldsGoal meaning capacity cell p → run p ≢ 0)
+        → ((p : ℕ) × (p < suc n) × HoldsGoal meaning capacity cell p × (run p ≡ 0))
+        ⊎ ((p : ℕ) → p < suc n → HoldsGoal meaning capacity cell p → run p ≢ 0)
     at (inl empty) any b is none_of = inr (λ p less holds.
         ⊎_elim (λ e. absurd (holds.0 (ap cell e ∙ empty))) (λ ne. none_of p (omega arith) holds) (cases_eq p n))
     at (inr taken) (inr busy) b is none_of =

@@ -21,7 +21,7 @@ SawOther looks word place = (found : ℕ) × Looked looks (cell_word place) foun
 
 -- the looks found other words in that many cells from the word's home on
 abbrev pub SawOthers : ℕ → List (ℕ × ℕ) → ℕ → ℕ → Type 0
-SawOthers room looks word steps = AllPassed room (home_of word room) steps (SawOther looks word)
+SawOthers capacity looks word steps = AllPassed capacity (home_of word capacity) steps (SawOther looks word)
 
 -- the looks show the full word set
 abbrev pub ShowsFull : List (ℕ × ℕ) → Type 0
@@ -31,18 +31,18 @@ ShowsFull looks = (found : ℕ) × Looked looks full_word found × (found ≢ 0)
 abbrev pub ShowsClosed : List (ℕ × ℕ) → ℕ → Type 0
 ShowsClosed looks place = (found : ℕ) × Looked looks (head_word place) found × (2 ^ 63 ≤ found)
 
-module _ (meaning : Meaning) (room : ℕ) (looks : List (ℕ × ℕ)) where
+module _ (meaning : Meaning) (capacity : ℕ) (looks : List (ℕ × ℕ)) where
   -- the looks show a goal finished: one found it in a cell and one found its head closed, or they show a goal finished
   -- whose child it is
   pub data ShowsFinished : ℕ → Type 0 where
-    seen_closed : (goal place : ℕ) → place < room → goal ≢ 0 → Looked looks (cell_word place) goal
+    seen_closed : (goal place : ℕ) → place < capacity → goal ≢ 0 → Looked looks (cell_word place) goal
         → ShowsClosed looks place → ShowsFinished goal
     child_of : (goal child : ℕ) → ShowsFinished goal → meaning.child goal child → ShowsFinished child
 
   -- the looks show a word in a cell: one found it there, or they show a goal finished that asks for it, or they show it
   -- finished
   pub data ShowsEntry : ℕ → Type 0 where
-    seen_there : (word place : ℕ) → place < room → word ≢ 0 → Looked looks (cell_word place) word → ShowsEntry word
+    seen_there : (word place : ℕ) → place < capacity → word ≢ 0 → Looked looks (cell_word place) word → ShowsEntry word
     asked_by : (goal word : ℕ) → ShowsFinished goal → meaning.asked goal word → ShowsEntry word
     finished : (goal : ℕ) → ShowsFinished goal → ShowsEntry goal
 
@@ -53,12 +53,12 @@ module _ (meaning : Meaning) (room : ℕ) (looks : List (ℕ × ℕ)) where
 
 -- no word that these looks show in a cell was passed by, on the way from its home to the empty cell
 abbrev pub ForgetsNone : Meaning → ℕ → List (ℕ × ℕ) → ℕ → Type 0
-ForgetsNone meaning room looks empty = (word place : ℕ) → place < room → cell_word place ≡ empty
-    → ShowsEntry meaning room looks word
-    → SawOthers room looks word (steps_to room (home_of word room) place) → ⊥
+ForgetsNone meaning capacity looks empty = (word place : ℕ) → place < capacity → cell_word place ≡ empty
+    → ShowsEntry meaning capacity looks word
+    → SawOthers capacity looks word (steps_to capacity (home_of word capacity) place) → ⊥
 
 -- absence is remembered: at each look that found an empty cell, no word was passed by that earlier looks show in a cell
 abbrev pub RemembersAbsence : Meaning → ℕ → List (ℕ × ℕ) → Type 0
-RemembersAbsence meaning room [] = Unit {0}
-RemembersAbsence meaning room (look ∷ looks) = (look.1 ≡ 0 → ForgetsNone meaning room looks look.0)
-    × RemembersAbsence meaning room looks
+RemembersAbsence meaning capacity [] = Unit {0}
+RemembersAbsence meaning capacity (look ∷ looks) = (look.1 ≡ 0 → ForgetsNone meaning capacity looks look.0)
+    × RemembersAbsence meaning capacity looks

@@ -25,7 +25,7 @@ module _ {R : Type 0} (meaning_of : R → Meaning) where
     pub words : List ℕ
     pub views : List (Hands R)
     pub id : ℕ
-    pub sound : IsSound (meaning_of rules) rules v.room words views
+    pub sound : IsSound (meaning_of rules) rules v.capacity words views
     pub mine : get_elem? views id ≡ some v
     pub value : found ≡ slice_index words word
 
@@ -60,8 +60,8 @@ module _ {R : Type 0} (meaning_of : R → Meaning) where
   pub record ClosesHead (v : Hands R) (place worker cost node found : ℕ) (w : Hands R) : Type 0 where
     pub waiters : List ℕ
     pub named : found ≡ head_of waiters
-    pub near : Each (λ q. q < 8 * v.room) waiters
-    pub few : length waiters ≤ 8 * v.room
+    pub near : Each (λ q. q < 8 * v.capacity) waiters
+    pub few : length waiters ≤ 8 * v.capacity
     pub leaves : Leaves v (head_word place) found (finished v place worker cost node waiters) w
 
   -- the bit of the right's next wait is set

@@ -15,11 +15,11 @@ use Rattle.board_rule.specs.Seats.{Each, times, total, waits_at, in_hand, spent}
 use Rattle.board_rule.specs.May.{HasRight}
 use Rattle.board_rule.specs.declared.hands.Hands.{Hands}
 
-module _ (meaning : Meaning) (room : ℕ) where
+module _ (meaning : Meaning) (capacity : ℕ) where
   -- cells are a set: taken cells hold entries, none twice, and no cell from a word's home up to its place is empty
   pub record AreCells (cell : ℕ → ℕ) : Type 0 where
-    pub enter : (p : ℕ) → p < room → cell p ≢ 0 → meaning.entry (cell p)
-    pub are_set : IsWordSet room cell
+    pub enter : (p : ℕ) → p < capacity → cell p ≢ 0 → meaning.entry (cell p)
+    pub are_set : IsWordSet capacity cell
 
   -- a goal stands in the cell
   abbrev pub HoldsGoal : (ℕ → ℕ) → ℕ → Type 0
@@ -36,15 +36,15 @@ module _ (meaning : Meaning) (room : ℕ) where
 
   -- the words of empty cells and of members are 0
   abbrev pub KeepsBlank : Mem → Type 0
-  KeepsBlank m = (p : ℕ) → p < room → (HoldsGoal m.cell p → ⊥) → IsBlank m p
+  KeepsBlank m = (p : ℕ) → p < capacity → (HoldsGoal m.cell p → ⊥) → IsBlank m p
 
   -- the word stands in a cell
   abbrev pub Stands : (cell : ℕ → ℕ) → ℕ → Type 0
-  Stands cell word = (p : ℕ) × (p < room) × (word ≢ 0) × (cell p ≡ word)
+  Stands cell word = (p : ℕ) × (p < capacity) × (word ≢ 0) × (cell p ≡ word)
 
   -- the goal stands in a cell and is finished: its head is closed
   abbrev pub IsFinished : (cell head : ℕ → ℕ) → ℕ → Type 0
-  IsFinished cell head goal = (p : ℕ) × (p < room) × (goal ≢ 0) × (cell p ≡ goal) × (2 ^ 63 ≤ head p)
+  IsFinished cell head goal = (p : ℕ) × (p < capacity) × (goal ≢ 0) × (cell p ≡ goal) × (2 ^ 63 ≤ head p)
 
   -- the goal's promise: its children are finished, and what it asks for stands in cells
   pub record IsPromised (cell head : ℕ → ℕ) (goal : ℕ) : Type 0 where
@@ -53,13 +53,13 @@ module _ (meaning : Meaning) (room : ℕ) where
 
   -- promises and answers: a finished goal's promise holds, and its answer words are its answer
   pub record KeepsPromises (cell head cost node : ℕ → ℕ) : Type 0 where
-    pub promise : (p : ℕ) → p < room → 2 ^ 63 ≤ head p → IsPromised cell head (cell p)
-    pub answer : (p : ℕ) → p < room → 2 ^ 63 ≤ head p → meaning.answer (cell p) (cost p) (node p)
+    pub promise : (p : ℕ) → p < capacity → 2 ^ 63 ≤ head p → IsPromised cell head (cell p)
+    pub answer : (p : ℕ) → p < capacity → 2 ^ 63 ≤ head p → meaning.answer (cell p) (cost p) (node p)
 
   -- every cell is taken, and some entry stands in none
   pub record IsFull (cell : ℕ → ℕ) : Type 0 where
-    pub taken : (p : ℕ) → p < room → cell p ≢ 0
-    pub left_out : (word : ℕ) × meaning.entry word × ((p : ℕ) → p < room → cell p ≢ word)
+    pub taken : (p : ℕ) → p < capacity → cell p ≢ 0
+    pub left_out : (word : ℕ) × meaning.entry word × ((p : ℕ) → p < capacity → cell p ≢ word)
 
 -- how often the place stands in the rights of all seats
 abbrev pub held : {R : Type 0} → List (Hands R) → ℕ → ℕ
@@ -81,7 +81,7 @@ pub record AreRights {R : Type 0} (run head : ℕ → ℕ) (views : List (Hands 
 
 -- rights: a goal is held, or finished, exactly where it stands in one seat's rights, or done, once
 abbrev pub KeepsRights : {R : Type 0} → ℕ → (run head : ℕ → ℕ) → List (Hands R) → Type 0
-KeepsRights room run head views = (p : ℕ) → p < room → AreRights run head views p
+KeepsRights capacity run head views = (p : ℕ) → p < capacity → AreRights run head views p
 
 -- the waits that a right has not got have no bit set, but for the one that is being put in
 pub record IsRaised (run : ℕ → ℕ) (pending : Option Pending) (r : Claimed) : Type 0 where
@@ -91,48 +91,49 @@ pub record IsRaised (run : ℕ → ℕ) (pending : Option Pending) (r : Claimed)
 
 -- the head that was seen is that of a child of the waiter's goal; where it is linked, it was open, and the waiter's
 -- next word names its first waiter
-pub record IsSeenHead (meaning : Meaning) (room : ℕ) (cell next : ℕ → ℕ) (x : Pending) (head : ℕ) : Type 0 where
-  pub near : x.child < room
-  pub child_goal : HoldsGoal meaning room cell x.child
+pub record IsSeenHead (meaning : Meaning) (capacity : ℕ) (cell next : ℕ → ℕ) (x : Pending) (head : ℕ) : Type 0 where
+  pub near : x.child < capacity
+  pub child_goal : HoldsGoal meaning capacity cell x.child
   pub is_child : meaning.child (cell (x.waiter / 8)) (cell x.child)
   pub was_open : x.linked ≡ true → head < 2 ^ 63
   pub links : x.linked ≡ true → next x.waiter ≡ head % 2 ^ 24
 
 -- a wait that is being put in is the next one of a right of the seat
-pub record IsPending (meaning : Meaning) (room : ℕ) (cell next : ℕ → ℕ) (looks : List (ℕ × ℕ)) (rights : List Claimed)
+pub record IsPending (meaning : Meaning) (capacity : ℕ) (cell next : ℕ → ℕ) (looks : List (ℕ × ℕ))
+    (rights : List Claimed)
     (x : Pending) : Type 0 where
-  pub has : HasRight room rights (x.waiter / 8)
+  pub has : HasRight capacity rights (x.waiter / 8)
   pub its_wait : waits_at (x.waiter / 8) rights ≡ x.waiter % 8
-  pub seen : (head : ℕ) → x.seen ≡ Some head → IsSeenHead meaning room cell next x head
+  pub seen : (head : ℕ) → x.seen ≡ Some head → IsSeenHead meaning capacity cell next x head
   pub looked : (head : ℕ) → x.seen ≡ Some head → Looked looks (head_word x.child) head
 
 abbrev pub ArePending : Meaning → ℕ → (cell next : ℕ → ℕ) → List (ℕ × ℕ) → List Claimed → Option Pending → Type 0
-ArePending meaning room cell next looks rights None = Unit {0}
-ArePending meaning room cell next looks rights (Some x) = IsPending meaning room cell next looks rights x
+ArePending meaning capacity cell next looks rights None = Unit {0}
+ArePending meaning capacity cell next looks rights (Some x) = IsPending meaning capacity cell next looks rights x
 
 -- the waiter's goal waited for the child, which is finished
-pub record WaitedFor (meaning : Meaning) (room : ℕ) (cell head : ℕ → ℕ) (child waiter : ℕ) : Type 0 where
-  pub near : child < room
+pub record WaitedFor (meaning : Meaning) (capacity : ℕ) (cell head : ℕ → ℕ) (child waiter : ℕ) : Type 0 where
+  pub near : child < capacity
   pub closed : 2 ^ 63 ≤ head child
   pub is_child : meaning.child (cell (waiter / 8)) (cell child)
 
 -- what is left of a closed list is a chain, and the next word that was read is the first waiter's
-pub record IsWalked (meaning : Meaning) (room : ℕ) (cell head next : ℕ → ℕ) (walk : Walk) : Type 0 where
+pub record IsWalked (meaning : Meaning) (capacity : ℕ) (cell head next : ℕ → ℕ) (walk : Walk) : Type 0 where
   pub chained : IsChain next walk.waiters
   pub read : (found : ℕ) → walk.next ≡ Some found → found ≡ first_of (rest_of walk.waiters)
-  pub waited : Each (WaitedFor meaning room cell head walk.child) walk.waiters
+  pub waited : Each (WaitedFor meaning capacity cell head walk.child) walk.waiters
 
 -- waits: there is, for each place, the list of its waiters; each wait bit that is set stands once in a list or a hand
-pub record KeepsWaits {R : Type 0} (meaning : Meaning) (room : ℕ) (cell run head next : ℕ → ℕ)
+pub record KeepsWaits {R : Type 0} (meaning : Meaning) (capacity : ℕ) (cell run head next : ℕ → ℕ)
     (views : List (Hands R)) : Type 0 where
   pub lists : ℕ → List ℕ
-  pub none_left : (c : ℕ) → c < room → 2 ^ 63 ≤ head c → lists c ≡ []
-  pub heads : (c : ℕ) → c < room → head c < 2 ^ 63 → head c ≡ head_of (lists c)
-  pub chains : (c : ℕ) → c < room → IsChain next (lists c)
-  pub joined : (c : ℕ) → c < room → Each (λ q. meaning.child (cell (q / 8)) (cell c)) (lists c)
-  pub once : (q : ℕ) → below (λ c. times (λ (p : ℕ). p) q (lists c)) room + total
+  pub none_left : (c : ℕ) → c < capacity → 2 ^ 63 ≤ head c → lists c ≡ []
+  pub heads : (c : ℕ) → c < capacity → head c < 2 ^ 63 → head c ≡ head_of (lists c)
+  pub chains : (c : ℕ) → c < capacity → IsChain next (lists c)
+  pub joined : (c : ℕ) → c < capacity → Each (λ q. meaning.child (cell (q / 8)) (cell c)) (lists c)
+  pub once : (q : ℕ) → below (λ c. times (λ (p : ℕ). p) q (lists c)) capacity + total
       (λ v. times (λ (p : ℕ). p) q (in_hand v.pending v.walk)) views ≡ wait_bit run q
-  pub near : (q : ℕ) → 1 ≤ wait_bit run q → q / 8 < room
+  pub near : (q : ℕ) → 1 ≤ wait_bit run q → q / 8 < capacity
 
 -- what was seen stays: a taken cell, a closed head, the number of an open head's waiters, the set full word
 pub record Stays (cell head : ℕ → ℕ) (full : ℕ) (looks : List (ℕ × ℕ)) : Type 0 where
@@ -141,8 +142,8 @@ pub record Stays (cell head : ℕ → ℕ) (full : ℕ) (looks : List (ℕ × �
   pub set_full : (found : ℕ) → Looked looks full_word found → found ≢ 0 → full ≢ 0
 
 -- a finished goal has its worker and its answer in its words
-pub record IsRecorded (room : ℕ) (head cost node who : ℕ → ℕ) (e : Ended) : Type 0 where
-  pub near : e.place < room
+pub record IsRecorded (capacity : ℕ) (head cost node who : ℕ → ℕ) (e : Ended) : Type 0 where
+  pub near : e.place < capacity
   pub closed : 2 ^ 63 ≤ head e.place
   pub cost_is : cost e.place ≡ e.cost
   pub node_is : node e.place ≡ e.node
@@ -161,21 +162,21 @@ EndsClaims v = (p : ℕ) → times (λ (c : ℕ). c) p v.claims
     ≡ times (λ (s : Paused). s.place) p v.suspensions + times (λ (e : Ended). e.place) p v.done + times
     (λ (r : Claimed). r.place) p v.rights
 
--- a seat that is not spent has a part, the board's rules and its room
+-- a seat that is not spent has a part, the board's rules and its capacity
 abbrev pub IsAwake : {R : Type 0} → R → ℕ → Hands R → Type 0
-IsAwake rules room v = (v ≡ spent) ⊎ ((1 ≤ v.parts) × (v.rules ≡ Some rules) × (v.room ≡ room))
+IsAwake rules capacity v = (v ≡ spent) ⊎ ((1 ≤ v.parts) × (v.rules ≡ Some rules) × (v.capacity ≡ capacity))
 
 -- what holds of one seat's hands
-pub record AreHands {R : Type 0} (meaning : Meaning) (rules : R) (room : ℕ) (m : Mem) (v : Hands R) : Type 0 where
+pub record AreHands {R : Type 0} (meaning : Meaning) (rules : R) (capacity : ℕ) (m : Mem) (v : Hands R) : Type 0 where
   pub stays : Stays m.cell m.head m.full v.looks
-  pub absence : RemembersAbsence meaning room v.looks
-  pub recorded : Each (IsRecorded room m.head m.cost m.node m.who) v.done
+  pub absence : RemembersAbsence meaning capacity v.looks
+  pub recorded : Each (IsRecorded capacity m.head m.cost m.node m.who) v.done
   pub stored : Each (IsStored m.cost m.node m.who) v.rights
   pub ends : EndsClaims v
   pub raised : Each (IsRaised m.run v.pending) v.rights
-  pub pends : ArePending meaning room m.cell m.next v.looks v.rights v.pending
-  pub walked : IsWalked meaning room m.cell m.head m.next v.walk
-  pub awake : IsAwake rules room v
+  pub pends : ArePending meaning capacity m.cell m.next v.looks v.rights v.pending
+  pub walked : IsWalked meaning capacity m.cell m.head m.next v.walk
+  pub awake : IsAwake rules capacity v
 
 -- the fact holds of the hands of each seat
 abbrev pub OfAll : {R : Type 0} → (Hands R → Type 0) → List (Hands R) → Type 0
@@ -187,20 +188,22 @@ pub record KeepsAlone {R : Type 0} (words : List ℕ) (views : List (Hands R)) (
   pub only : (kept : List ℕ) → v.alone ≡ Some kept → length views ≡ 1
 
 -- soundness but for what seats that are alone keep: of the words by their kinds, and the hands of all seats
-pub record IsSoundBy {R : Type 0} (meaning : Meaning) (rules : R) (room : ℕ) (m : Mem) (views : List (Hands R)) : Type 0
+pub record IsSoundBy {R : Type 0} (meaning : Meaning) (rules : R) (capacity : ℕ) (m : Mem) (views : List (Hands R)) :
+    Type 0
   where
-    pub cells : AreCells meaning room m.cell
-    pub blank : KeepsBlank meaning room m
-    pub rights : KeepsRights room m.run m.head views
-    pub waits : KeepsWaits meaning room m.cell m.run m.head m.next views
-    pub promises : KeepsPromises meaning room m.cell m.head m.cost m.node
-    pub full : m.full ≢ 0 → IsFull meaning room m.cell
-    pub hands : OfAll (AreHands meaning rules room m) views
+    pub cells : AreCells meaning capacity m.cell
+    pub blank : KeepsBlank meaning capacity m
+    pub rights : KeepsRights capacity m.run m.head views
+    pub waits : KeepsWaits meaning capacity m.cell m.run m.head m.next views
+    pub promises : KeepsPromises meaning capacity m.cell m.head m.cost m.node
+    pub full : m.full ≢ 0 → IsFull meaning capacity m.cell
+    pub hands : OfAll (AreHands meaning rules capacity m) views
     pub parts : total (λ v. v.parts) views ≡ 64
 
 -- soundness
-pub record IsSound {R : Type 0} (meaning : Meaning) (rules : R) (room : ℕ) (words : List ℕ) (views : List (Hands R)) :
+pub record IsSound {R : Type 0} (meaning : Meaning) (rules : R) (capacity : ℕ) (words : List ℕ)
+    (views : List (Hands R)) :
     Type 0 where
-  pub count : length words ≡ 14 * room + 1
-  pub by_kinds : IsSoundBy meaning rules room (mem words) views
+  pub count : length words ≡ 14 * capacity + 1
+  pub by_kinds : IsSoundBy meaning rules capacity (mem words) views
   pub alone : OfAll (KeepsAlone words views) views

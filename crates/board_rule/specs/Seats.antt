@@ -87,12 +87,12 @@ woken_by found waiter woken = cond (cleared found (waiter % 8) == 0) (waiter / 8
 module _ {R : Type 0} where
   -- the first seat's hands at the start
   abbrev pub opening_hands : R → ℕ → Hands R
-  opening_hands rules room = record {
+  opening_hands rules capacity = record {
     marker = record {};
     rules = Some rules;
-    room = room;
+    capacity = capacity;
     parts = 64;
-    alone = Some (replicate (14 * room + 1) 0);
+    alone = Some (replicate (14 * capacity + 1) 0);
     looks = [];
     puts = [];
     claims = [];
@@ -109,7 +109,7 @@ module _ {R : Type 0} where
   spent = record {
     marker = record {};
     rules = None;
-    room = 0;
+    capacity = 0;
     parts = 0;
     alone = None;
     looks = [];

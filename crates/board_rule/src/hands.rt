@@ -11,7 +11,7 @@ pub struct Hands<R> {
     // The board's rules. A seat that was taken in by another has none.
     pub ghost rules: { Option R } by { coded_option R.code },
     // The number of the board's cells.
-    pub ghost room: { ℕ },
+    pub ghost capacity: { ℕ },
     // Its share of 64 parts of the board.
     pub ghost parts: { ℕ },
     // All words of the board, while no other seat was ever made.

@@ -7,18 +7,18 @@ use atomic_table::{Join, Split, TableRule};
 
 /// What a board is told once: its rules, and the number of its cells.
 #[derive(Drop)]
-pub struct Key<R> {
+pub struct Setup<R> {
     pub rules: R,
-    pub room: u32,
+    pub capacity: u32,
 }
 
 /// Soundness, between any two steps of any seats.
 pub struct Law;
 
-impl<R: GoalRules> TableRule<(), Hands<R>, Key<R>> for Law {
-    ghost holds = { λ key s. IsSound (R.meaning key.rules) key.rules key.room s.words s.views };
+impl<R: GoalRules> TableRule<(), Hands<R>, Setup<R>> for Law {
+    ghost holds = { λ setup s. IsSound (R.meaning setup.rules) setup.rules setup.capacity s.words s.views };
 
-    ghost first = { λ key. opening_hands key.rules key.room };
+    ghost first = { λ setup. opening_hands setup.rules setup.capacity };
 }
 
 /// A new seat is made of one.

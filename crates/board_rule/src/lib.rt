@@ -7,7 +7,7 @@ mod plays;
 mod rules;
 
 pub use hands::Hands;
-pub use law::{Apart, Key, Law, Together};
+pub use law::{Apart, Law, Setup, Together};
 pub use plays::{
     BeginWait, Claim, ClearBit, Close, DropWait, Fill, Look, Put, PutWait, ReadNext, SeeHead,
     StoreCost, StoreNext, StoreNode, StoreWho, Suspend,

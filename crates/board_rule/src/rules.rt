@@ -19,11 +19,16 @@ pub trait GoalRules: Send + Sync {
     // 0 is no entry.
     ghost zero_enters_not: { (rules : Self) (word : ℕ) → (meaning rules).entry word → word ≢ 0 };
     // A child has a smaller rank.
-    ghost ranks_fall: { (rules : Self) (goal child : ℕ) → (meaning rules).child goal child → rank_of rules child < rank_of rules goal };
+    ghost ranks_fall: { (rules : Self) (goal child : ℕ) → (meaning rules).child goal child
+        → rank_of rules child < rank_of rules goal };
     // A child of an entry is an entry and a goal.
-    ghost children_enter: { (rules : Self) (goal child : ℕ) → (meaning rules).entry goal → (meaning rules).child goal child → (meaning rules).entry child × IsTrue ((meaning rules).goal child) };
+    ghost children_enter: { (rules : Self) (goal child : ℕ) → (meaning rules).entry goal
+        → (meaning rules).child goal child → (meaning rules).entry child × IsTrue ((meaning rules).goal child) };
     // What a goal among the entries asks for is an entry.
-    ghost asked_enter: { (rules : Self) (goal word : ℕ) → (meaning rules).entry goal → IsTrue ((meaning rules).goal goal) → (meaning rules).asked goal word → (meaning rules).entry word };
+    ghost asked_enter: { (rules : Self) (goal word : ℕ) → (meaning rules).entry goal
+        → IsTrue ((meaning rules).goal goal) → (meaning rules).asked goal word → (meaning rules).entry word };
     // A goal has one answer at most.
-    ghost answers_are_one: { (rules : Self) (goal cost node other_cost other_node : ℕ) → (meaning rules).answer goal cost node → (meaning rules).answer goal other_cost other_node → (cost ≡ other_cost) × (node ≡ other_node) };
+    ghost answers_are_one: { (rules : Self) (goal cost node other_cost other_node : ℕ)
+        → (meaning rules).answer goal cost node → (meaning rules).answer goal other_cost other_node
+        → (cost ≡ other_cost) × (node ≡ other_node) };
 }

@@ -11,7 +11,7 @@ use Rattle.board_tests.specs.declared.numbers.Numbers.{Numbers}
 -- the seat is one of a board of the words from 1 to 4, and holds no right
 pub record IsIdleAt (board : Board Numbers) (seat : Seat Numbers) : Type 0 where
   pub of_board : IsSeatOf (λ r. numbers r.limit) board seat
-  pub limit : board.key.rules.limit ≡ 4
+  pub limit : board.setup.rules.limit ≡ 4
   pub rights : (hands seat).rights ≡ []
 
 -- the new hands are the old ones with further looks

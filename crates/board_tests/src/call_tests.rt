@@ -31,9 +31,9 @@ impl Hints for Deaf {
 // An insert, after which the seat has the parts and rights that it had.
 fn put_in<R: GoalRules>(board: &Board<R>, seat: &mut Seat<R>, word: u64) -> Inserted
     requires seat { IsSeatOf R.meaning board.now seat.old }
-    requires enters { (R.meaning board.now.key.rules).entry word }
+    requires enters { (R.meaning board.now.setup.rules).entry word }
     ensures seat { IsSeatOf R.meaning board.now seat.new }
-    ensures answer { Inserts board.now.key.room (hands seat.old) word result (hands seat.new) }
+    ensures answer { Inserts board.now.setup.capacity (hands seat.old) word result (hands seat.new) }
     ensures parts { (hands seat.new).parts ≡ (hands seat.old).parts }
     ensures rights { (hands seat.new).rights ≡ (hands seat.old).rights }
 {
@@ -49,10 +49,10 @@ fn claim_goal<R: GoalRules>(
     goal: u64,
 ) -> Right
     requires seat { IsSeatOf R.meaning board.now seat.old }
-    requires near { at < board.now.key.room }
+    requires near { at < board.now.setup.capacity }
     requires rights { (hands seat.old).rights ≡ [] }
     ensures seat { IsSeatOf R.meaning board.now seat.new }
-    ensures right { IsRightOf (R.meaning board.now.key.rules) board.now.key.room (hands seat.new) result }
+    ensures right { IsRightOf (R.meaning board.now.setup.rules) board.now.setup.capacity (hands seat.new) result }
     ensures goal { result.goal ≡ goal }
     ensures waits { result.waits ≡ 0 }
     ensures only { HasOnly (hands seat.new).rights result.place }
@@ -71,7 +71,7 @@ fn claim_goal<R: GoalRules>(
 // A goal that is held or waits is not claimed.
 fn find_busy<R: GoalRules>(rt: &impl Abort, board: &Board<R>, seat: &mut Seat<R>, at: u32)
     requires seat { IsSeatOf R.meaning board.now seat.old }
-    requires near { at < board.now.key.room }
+    requires near { at < board.now.setup.capacity }
     ensures seat { IsSeatOf R.meaning board.now seat.new }
     ensures looks { HasLooked (hands seat.old) (hands seat.new) }
     ensures rights { (hands seat.new).rights ≡ (hands seat.old).rights }
@@ -95,10 +95,10 @@ fn claim_in_vain<R: GoalRules>(
     right: &Right,
 )
     requires seat { IsSeatOf R.meaning board.now seat.old }
-    requires near { at < board.now.key.room }
-    requires right { IsRightOf (R.meaning board.now.key.rules) board.now.key.room (hands seat.old) right.now }
+    requires near { at < board.now.setup.capacity }
+    requires right { IsRightOf (R.meaning board.now.setup.rules) board.now.setup.capacity (hands seat.old) right.now }
     ensures seat { IsSeatOf R.meaning board.now seat.new }
-    ensures right { IsRightOf (R.meaning board.now.key.rules) board.now.key.room (hands seat.new) right.now }
+    ensures right { IsRightOf (R.meaning board.now.setup.rules) board.now.setup.capacity (hands seat.new) right.now }
     ensures rights { (hands seat.new).rights ≡ (hands seat.old).rights }
     ensures parts { (hands seat.new).parts ≡ (hands seat.old).parts }
 {
@@ -115,13 +115,13 @@ fn wait_on<R: GoalRules>(
     child: u64,
 ) -> Awaited
     requires seat { IsSeatOf R.meaning board.now seat.old }
-    requires near { at < board.now.key.room }
-    requires right { IsRightOf (R.meaning board.now.key.rules) board.now.key.room (hands seat.old) right.old }
+    requires near { at < board.now.setup.capacity }
+    requires right { IsRightOf (R.meaning board.now.setup.rules) board.now.setup.capacity (hands seat.old) right.old }
     requires only { HasOnly (hands seat.old).rights right.old.place }
-    requires child { (R.meaning board.now.key.rules).child right.old.goal child }
+    requires child { (R.meaning board.now.setup.rules).child right.old.goal child }
     requires fewer { right.old.waits < 8 }
     ensures seat { IsSeatOf R.meaning board.now seat.new }
-    ensures right { IsRightOf (R.meaning board.now.key.rules) board.now.key.room (hands seat.new) right.new }
+    ensures right { IsRightOf (R.meaning board.now.setup.rules) board.now.setup.capacity (hands seat.new) right.new }
     ensures only { HasOnly (hands seat.new).rights right.new.place }
     ensures waited { right.new ≡ waited result right.old }
     ensures parts { (hands seat.new).parts ≡ (hands seat.old).parts }
@@ -138,7 +138,7 @@ fn wait_on<R: GoalRules>(
 // Gives up the only right of a seat.
 fn pause<R: GoalRules>(board: &Board<R>, seat: &mut Seat<R>, right: Right) -> Suspended
     requires seat { IsSeatOf R.meaning board.now seat.old }
-    requires right { IsRightOf (R.meaning board.now.key.rules) board.now.key.room (hands seat.old) right }
+    requires right { IsRightOf (R.meaning board.now.setup.rules) board.now.setup.capacity (hands seat.old) right }
     requires only { HasOnly (hands seat.old).rights right.place }
     ensures seat { IsSeatOf R.meaning board.now seat.new }
     ensures rights { (hands seat.new).rights ≡ [] }
@@ -156,24 +156,26 @@ fn finish_one<R: GoalRules>(
     answer: Answer,
 ) -> Woken
     requires seat { IsSeatOf R.meaning board.now seat.old }
-    requires right { IsRightOf (R.meaning board.now.key.rules) board.now.key.room (hands seat.old) right }
+    requires right { IsRightOf (R.meaning board.now.setup.rules) board.now.setup.capacity (hands seat.old) right }
     requires only { HasOnly (hands seat.old).rights right.place }
     requires waits { right.waits ≡ 0 }
     requires worker { worker < 64 }
     requires promise { HasSeenPromise R.meaning board.now seat.old right.goal }
-    requires answer { (R.meaning board.now.key.rules).answer right.goal answer.cost answer.node }
+    requires answer { (R.meaning board.now.setup.rules).answer right.goal answer.cost answer.node }
     ensures seat { IsSeatOf R.meaning board.now seat.new }
     ensures rights { (hands seat.new).rights ≡ [] }
     ensures parts { (hands seat.new).parts ≡ (hands seat.old).parts }
 {
-    let mut deaf = Deaf { below: board.cap() };
+    let mut deaf = Deaf {
+        below: board.capacity(),
+    };
     board.finish(seat, right, worker, answer, &mut deaf)
 }
 
 // The answer of the goal at a place, if it is finished.
 fn answer_at<R: GoalRules>(board: &Board<R>, seat: &mut Seat<R>, at: u32) -> Option<Answer>
     requires seat { IsSeatOf R.meaning board.now seat.old }
-    requires near { at < board.now.key.room }
+    requires near { at < board.now.setup.capacity }
     ensures seat { IsSeatOf R.meaning board.now seat.new }
     ensures rights { (hands seat.new).rights ≡ (hands seat.old).rights }
     ensures parts { (hands seat.new).parts ≡ (hands seat.old).parts }
@@ -191,11 +193,11 @@ fn see_finished<R: GoalRules>(
     right: &Right,
 ) -> Answer
     requires seat { IsSeatOf R.meaning board.now seat.old }
-    requires near { at < board.now.key.room }
-    requires right { IsRightOf (R.meaning board.now.key.rules) board.now.key.room (hands seat.old) right.now }
+    requires near { at < board.now.setup.capacity }
+    requires right { IsRightOf (R.meaning board.now.setup.rules) board.now.setup.capacity (hands seat.old) right.now }
     ensures seat { IsSeatOf R.meaning board.now seat.new }
-    ensures right { IsRightOf (R.meaning board.now.key.rules) board.now.key.room (hands seat.new) right.now }
-    ensures finished { ShowsFinished (R.meaning board.now.key.rules) board.now.key.room
+    ensures right { IsRightOf (R.meaning board.now.setup.rules) board.now.setup.capacity (hands seat.new) right.now }
+    ensures finished { ShowsFinished (R.meaning board.now.setup.rules) board.now.setup.capacity
         (hands seat.new).looks goal }
     ensures rights { (hands seat.new).rights ≡ (hands seat.old).rights }
     ensures parts { (hands seat.new).parts ≡ (hands seat.old).parts }
@@ -227,7 +229,7 @@ fn word_of(number: u64) -> u64
 // Puts all of these words in, and says how many of them were new.
 fn put_all(board: &Board<Numbers>, mut seat: Seat<Numbers>) -> (Seat<Numbers>, u64)
     requires seat { IsSeatOf ⟦<Numbers as GoalRules>⟧.meaning board.now seat }
-    requires limit { board.now.key.rules.limit ≡ 18446744073709551615 }
+    requires limit { board.now.setup.rules.limit ≡ 18446744073709551615 }
     requires rights { (hands seat).rights ≡ [] }
     ensures seat { IsSeatOf ⟦<Numbers as GoalRules>⟧.meaning board.now result.0 }
     ensures parts { (hands result.0).parts ≡ (hands seat).parts }
@@ -248,7 +250,7 @@ fn place_of(rt: &impl Abort, board: &Board<Numbers>, seat: &mut Seat<Numbers>, w
     requires enters { (1 ≤ word) × (word ≤ 4) }
     ensures idle { IsIdleAt board.now seat.new }
     ensures parts { (hands seat.new).parts ≡ (hands seat.old).parts }
-    ensures near { result < board.now.key.room }
+    ensures near { result < board.now.setup.capacity }
 {
     match put_in(board, seat, word) {
         Inserted::Fresh { at } => at,
@@ -265,7 +267,7 @@ fn finish_three(
     three: u32,
 ) -> Woken
     requires idle { IsIdleAt board.now seat.old }
-    requires near { three < board.now.key.room }
+    requires near { three < board.now.setup.capacity }
     ensures idle { IsIdleAt board.now seat.new }
     ensures parts { (hands seat.new).parts ≡ (hands seat.old).parts }
 {
@@ -282,7 +284,7 @@ fn finish_four(
     four: u32,
 ) -> Woken
     requires idle { IsIdleAt board.now seat.old }
-    requires near { (three < board.now.key.room) × (four < board.now.key.room) }
+    requires near { (three < board.now.setup.capacity) × (four < board.now.setup.capacity) }
     ensures idle { IsIdleAt board.now seat.new }
     ensures parts { (hands seat.new).parts ≡ (hands seat.old).parts }
 {
@@ -300,7 +302,7 @@ fn claim_and_give_up(
     three: u32,
 ) -> Suspended
     requires idle { IsIdleAt board.now seat.old }
-    requires near { three < board.now.key.room }
+    requires near { three < board.now.setup.capacity }
     ensures idle { IsIdleAt board.now seat.new }
     ensures parts { (hands seat.new).parts ≡ (hands seat.old).parts }
 {
@@ -318,7 +320,7 @@ fn wait_and_give_up(
     four: u32,
 ) -> (Awaited, Suspended)
     requires idle { IsIdleAt board.now seat.old }
-    requires near { (three < board.now.key.room) × (four < board.now.key.room) }
+    requires near { (three < board.now.setup.capacity) × (four < board.now.setup.capacity) }
     ensures idle { IsIdleAt board.now seat.new }
     ensures parts { (hands seat.new).parts ≡ (hands seat.old).parts }
 {
@@ -337,7 +339,7 @@ fn wait_and_finish(
     four: u32,
 ) -> Woken
     requires idle { IsIdleAt board.now seat.old }
-    requires near { (three < board.now.key.room) × (four < board.now.key.room) }
+    requires near { (three < board.now.setup.capacity) × (four < board.now.setup.capacity) }
     ensures idle { IsIdleAt board.now seat.new }
     ensures parts { (hands seat.new).parts ≡ (hands seat.old).parts }
 {
@@ -491,8 +493,8 @@ fn give_up_both<R: GoalRules>(
     at: u32,
 ) -> (Suspended, Suspended)
     requires seat { IsSeatOf R.meaning board.now seat.old }
-    requires near { at < board.now.key.room }
-    requires right { IsRightOf (R.meaning board.now.key.rules) board.now.key.room (hands seat.old) first }
+    requires near { at < board.now.setup.capacity }
+    requires right { IsRightOf (R.meaning board.now.setup.rules) board.now.setup.capacity (hands seat.old) first }
 {
     let Some(second) = board.claim(seat, at) else {
         board.suspend(seat, first);

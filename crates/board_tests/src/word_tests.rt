@@ -5,7 +5,7 @@ use word_table::{Inserted, WordTable, home};
 
 #[test]
 fn homes_are_as_the_formula_gives_them(rt: HostRuntime) {
-    for (word, cap, place) in [
+    for (word, capacity, place) in [
         (5, 4, 3),
         (6, 4, 0),
         (3, 79, 67),
@@ -13,7 +13,11 @@ fn homes_are_as_the_formula_gives_them(rt: HostRuntime) {
         (9_223_372_036_854_788_153, 1 << 20, 422_165),
         (u64::MAX, 1 << 20, 279_331),
     ] {
-        assert_eq!(rt; home(word, cap), place, "the home of {word} of {cap}");
+        assert_eq!(rt;
+            home(word, capacity),
+            place,
+            "the home of {word} of {capacity}"
+        );
     }
 }
 

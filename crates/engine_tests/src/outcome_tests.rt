@@ -19,7 +19,7 @@ use worked_queries::{implied, two_tables};
 // Puts an entry in, and says whether it was new.
 fn put_in<R: GoalRules>(board: &Board<R>, seat: &mut Seat<R>, word: u64) -> bool
     requires seat { IsSeatOf R.meaning board.now seat.old }
-    requires enters { (R.meaning board.now.key.rules).entry word }
+    requires enters { (R.meaning board.now.setup.rules).entry word }
     ensures seat { IsSeatOf R.meaning board.now seat.new }
     ensures parts { (hands seat.new).parts ≡ (hands seat.old).parts }
     ensures rights { (hands seat.new).rights ≡ (hands seat.old).rights }
@@ -34,7 +34,7 @@ fn put_in<R: GoalRules>(board: &Board<R>, seat: &mut Seat<R>, word: u64) -> bool
 // Puts these entries in, and says how many of them were new.
 fn put_all<R: GoalRules>(board: &Board<R>, seat: &mut Seat<R>, entries: &[u64]) -> usize
     requires seat { IsSeatOf R.meaning board.now seat.old }
-    requires enter { All (R.meaning board.now.key.rules).entry entries.now }
+    requires enter { All (R.meaning board.now.setup.rules).entry entries.now }
     ensures seat { IsSeatOf R.meaning board.now seat.new }
     ensures parts { (hands seat.new).parts ≡ (hands seat.old).parts }
     ensures rights { (hands seat.new).rights ≡ (hands seat.old).rights }
@@ -56,8 +56,8 @@ fn put_both<R: GoalRules>(
     then: &[u64],
 ) -> (Seat<R>, usize, usize)
     requires seat { IsSeatOf R.meaning board.now seat }
-    requires first { All (R.meaning board.now.key.rules).entry first.now }
-    requires then { All (R.meaning board.now.key.rules).entry then.now }
+    requires first { All (R.meaning board.now.setup.rules).entry first.now }
+    requires then { All (R.meaning board.now.setup.rules).entry then.now }
     requires rights { (hands seat).rights ≡ [] }
     ensures seat { IsSeatOf R.meaning board.now result.0 }
     ensures parts { (hands result.0).parts ≡ (hands seat).parts }
@@ -77,8 +77,8 @@ fn put_by_two<R: GoalRules>(
     goals: &[u64],
 ) -> (Seat<R>, usize, usize)
     requires seat { IsSeatOf R.meaning board.now seat }
-    requires members { All (R.meaning board.now.key.rules).entry members.now }
-    requires goals { All (R.meaning board.now.key.rules).entry goals.now }
+    requires members { All (R.meaning board.now.setup.rules).entry members.now }
+    requires goals { All (R.meaning board.now.setup.rules).entry goals.now }
     requires parts { (hands seat).parts ≡ 64 }
     requires rights { (hands seat).rights ≡ [] }
     ensures seat { IsSeatOf R.meaning board.now result.0 }
@@ -90,14 +90,14 @@ fn put_by_two<R: GoalRules>(
         rt,
         ||
             requires seat { IsSeatOf R.meaning board.now other }
-            requires members { All (R.meaning board.now.key.rules).entry members.now }
-            requires goals { All (R.meaning board.now.key.rules).entry goals.now }
+            requires members { All (R.meaning board.now.setup.rules).entry members.now }
+            requires goals { All (R.meaning board.now.setup.rules).entry goals.now }
             requires rights { (hands other).rights ≡ [] }
         { put_both(board, other, members, goals) },
         ||
             requires seat { IsSeatOf R.meaning board.now seat }
-            requires members { All (R.meaning board.now.key.rules).entry members.now }
-            requires goals { All (R.meaning board.now.key.rules).entry goals.now }
+            requires members { All (R.meaning board.now.setup.rules).entry members.now }
+            requires goals { All (R.meaning board.now.setup.rules).entry goals.now }
             requires rights { (hands seat).rights ≡ [] }
         { put_both(board, seat, goals, members) },
     );

@@ -69,13 +69,13 @@ pub fn find_alone(
     alloc: Global,
     query: &Query,
     props: &Props,
-    cap: u32,
+    capacity: u32,
     note: &mut RunNote,
 ) -> Result<Outcome, AllocError>
     requires props { IsProps query.now props.now }
-    requires capacity { (1 ≤ cap) × (cap ≤ 2 ^ 20) }
+    requires capacity { (1 ≤ capacity) × (capacity ≤ 2 ^ 20) }
 {
-    let (engine, worker) = Engine::start(alloc, query, props, cap)?;
+    let (engine, worker) = Engine::start(alloc, query, props, capacity)?;
     run_alone(alloc, engine, worker, note)
 }
 
@@ -85,14 +85,14 @@ pub fn find_by_two<R: Threads + Wait + Sync, G: Gate>(
     alloc: Global,
     query: &Query,
     props: &Props,
-    cap: u32,
+    capacity: u32,
     gate: &G,
     note: &mut RunNote,
 ) -> Result<Outcome, AllocError>
     requires props { IsProps query.now props.now }
-    requires capacity { (1 ≤ cap) × (cap ≤ 2 ^ 20) }
+    requires capacity { (1 ≤ capacity) × (capacity ≤ 2 ^ 20) }
 {
-    let (engine, worker) = Engine::start(alloc, query, props, cap)?;
+    let (engine, worker) = Engine::start(alloc, query, props, capacity)?;
     run_crew(rt, alloc, engine, worker, 2, gate, note)
 }
 
@@ -162,7 +162,7 @@ fn one_worker_and_two_find_the_same(rt: HostRuntime) -> Result<(), Fail> {
 fn is_done_or_full(outcome: &Outcome, fits: bool) -> bool {
     match outcome {
         Outcome::Done { .. } => fits,
-        Outcome::Full { cap } => !fits && *cap == 9,
+        Outcome::Full { capacity } => !fits && *capacity == 9,
         Outcome::Unfinished { .. } => false,
     }
 }
@@ -173,13 +173,21 @@ fn ends_by_two<R: Threads + Wait + Sync>(
     alloc: Global,
     query: &Query,
     props: &Props,
-    cap: u32,
+    capacity: u32,
     fits: bool,
 ) -> Result<bool, AllocError>
     requires props { IsProps query.now props.now }
-    requires capacity { (1 ≤ cap) × (cap ≤ 2 ^ 20) }
+    requires capacity { (1 ≤ capacity) × (capacity ≤ 2 ^ 20) }
 {
-    let outcome = find_by_two(rt, alloc, query, props, cap, &NoGate, &mut RunNote::new())?;
+    let outcome = find_by_two(
+        rt,
+        alloc,
+        query,
+        props,
+        capacity,
+        &NoGate,
+        &mut RunNote::new(),
+    )?;
     Ok(is_done_or_full(&outcome, fits))
 }
 

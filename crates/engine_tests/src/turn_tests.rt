@@ -114,13 +114,13 @@ fn search_by_draws(
     alloc: Global,
     query: &Query,
     props: &Props,
-    cap: u32,
+    capacity: u32,
     number: u64,
 ) -> Result<(bool, Outcome), AllocError>
     requires props { IsProps query.now props.now }
-    requires capacity { (1 ≤ cap) × (cap ≤ 2 ^ 20) }
+    requires capacity { (1 ≤ capacity) × (capacity ≤ 2 ^ 20) }
 {
-    let (engine, mut first) = Engine::start(alloc, query, props, cap)?;
+    let (engine, mut first) = Engine::start(alloc, query, props, capacity)?;
     let mut second = engine.split(alloc, &mut first, 1)?;
     let mut third = engine.split(alloc, &mut first, 2)?;
     step_by_draws(&engine, &mut first, &mut second, &mut third, number);
@@ -189,7 +189,7 @@ fn ends_full(alloc: Global, query: &Query, props: &Props, number: u64) -> Result
     requires { IsProps query.now props.now }
 {
     let (agree, outcome) = search_by_draws(alloc, query, props, 78, number)?;
-    Ok(agree && matches!(&outcome, Outcome::Full { cap: 78 }))
+    Ok(agree && matches!(&outcome, Outcome::Full { capacity: 78 }))
 }
 
 #[test]

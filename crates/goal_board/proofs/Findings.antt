@@ -36,8 +36,8 @@ pub found_unset : (value : ℕ) → not (eqb value 0) ≡ false → value ≡ 0
 found_unset value is = ⊎_elim (λ none. none) (λ taken. let otherwise : not (eqb value 0) ≡ true =
     ap not (ne_eqb value 0 taken) in let bad : ⊥ = cc in absurd bad) (cases_eq value 0)
 
-module _ {R : Type 0} {meaning_of : R → Meaning} {rules : R} {room : ℕ} where
-  pub reads_cell : {v w : Hands R} {at value : ℕ} {found : Option ℕ} → AreHandsOver meaning_of rules room v
+module _ {R : Type 0} {meaning_of : R → Meaning} {rules : R} {capacity : ℕ} where
+  pub reads_cell : {v w : Hands R} {at value : ℕ} {found : Option ℕ} → AreHandsOver meaning_of rules capacity v
       → LooksAt meaning_of v (cell_word at) value w
       → value ≡ found_word found → ((word : ℕ) → found ≡ Some word → word ≢ 0) → ReadsCell v at found w
   reads_cell {v} {at} {value} over told same is_word = record {
@@ -45,36 +45,36 @@ module _ {R : Type 0} {meaning_of : R → Meaning} {rules : R} {room : ℕ} wher
     some_word = is_word;
     looks = subst (λ x. IsSeen v ((cell_word at, x) ∷ [])) same
         (seen_one v (cell_word at, value) (λ e. omega (arith, e))
-        (saw_at meaning_of rules room v (cell_word at) value over told.moment));
+        (saw_at meaning_of rules capacity v (cell_word at) value over told.moment));
   }
 
   -- no goal stood in the cell
-  pub finds_no_goal : {v w : Hands R} {at value : ℕ} → AreHandsOver meaning_of rules room v
+  pub finds_no_goal : {v w : Hands R} {at value : ℕ} → AreHandsOver meaning_of rules capacity v
       → LooksAt meaning_of v (cell_word at) value w
-      → (value ≡ 0) ⊎ ((meaning_of rules).goal value ≡ false) → FindsBusy (meaning_of rules) room v at w
+      → (value ≡ 0) ⊎ ((meaning_of rules).goal value ≡ false) → FindsBusy (meaning_of rules) capacity v at w
   finds_no_goal {v} {at} {value} over told not_goal = record {
     more = (cell_word at, value) ∷ [];
     looks = seen_one v (cell_word at, value) (λ e. omega (arith, e))
-        (saw_at meaning_of rules room v (cell_word at) value over told.moment);
+        (saw_at meaning_of rules capacity v (cell_word at) value over told.moment);
     busy = inl (value, inl (refl, refl), not_goal);
     hands_are = told.hands_are;
   }
 
   -- both looks of a claim
-  both_looks : (v w : Hands R) (at goal value : ℕ) → AreHandsOver meaning_of rules room v
-      → AreHandsOver meaning_of rules room w → LooksAt meaning_of v (cell_word at) goal w
+  both_looks : (v w : Hands R) (at goal value : ℕ) → AreHandsOver meaning_of rules capacity v
+      → AreHandsOver meaning_of rules capacity w → LooksAt meaning_of v (cell_word at) goal w
       → Moment meaning_of w (run_word at) value → IsSeen v ((run_word at, value) ∷ ((cell_word at, goal) ∷ []))
   both_looks v w at goal value over after told moment =
       seen_more v w (run_word at, value) ((cell_word at, goal) ∷ []) told.hands_are (λ e. omega (arith, e))
       (seen_one v (cell_word at, goal) (λ e. omega (arith, e))
-      (saw_at meaning_of rules room v (cell_word at) goal over told.moment))
-      (saw_at meaning_of rules room w (run_word at) value after moment)
+      (saw_at meaning_of rules capacity v (cell_word at) goal over told.moment))
+      (saw_at meaning_of rules capacity w (run_word at) value after moment)
 
   -- the seat has no right to a goal whose run word was 0
-  no_right : (w : Hands R) (at value : ℕ) → at < room → AreHandsOver meaning_of rules room w
+  no_right : (w : Hands R) (at value : ℕ) → at < capacity → AreHandsOver meaning_of rules capacity w
       → Moment meaning_of w (run_word at) value → value ≡ 0 → Each (λ (r : Claimed). r.place ≢ at) w.rights
   no_right w at value near over moment free =
-      let t = sound_at meaning_of rules room w (run_word at) value over moment in
+      let t = sound_at meaning_of rules capacity w (run_word at) value over moment in
       let s = t.0 in
       let running = (s.sound.by_kinds.rights at near).running in
       let none : bit_at ((mem s.words).run at) 8 ≡ 0 = ap (λ n. bit_at n 8) (sym t.1 ∙ free) ∙ bit_at-zero 8 in
@@ -82,8 +82,8 @@ module _ {R : Type 0} {meaning_of : R → Meaning} {rules : R} {room : ℕ} wher
       each_elsewhere at w.rights (omega arith)
 
   -- and the step after them
-  three_looks : (v w x : Hands R) (at goal run value : ℕ) → AreHandsOver meaning_of rules room v
-      → AreHandsOver meaning_of rules room w → AreHandsOver meaning_of rules room x
+  three_looks : (v w x : Hands R) (at goal run value : ℕ) → AreHandsOver meaning_of rules capacity v
+      → AreHandsOver meaning_of rules capacity w → AreHandsOver meaning_of rules capacity x
       → LooksAt meaning_of v (cell_word at) goal w → LooksAt meaning_of w (run_word at) run x
       → Moment meaning_of x (run_word at) value
       → IsSeen v ((run_word at, value) ∷ ((run_word at, run) ∷ ((cell_word at, goal) ∷ [])))
@@ -91,14 +91,15 @@ module _ {R : Type 0} {meaning_of : R → Meaning} {rules : R} {room : ℕ} wher
       seen_more v x (run_word at, value) ((run_word at, run) ∷ ((cell_word at, goal) ∷ []))
       (next.hands_are ∙ ap (λ h. looked h (run_word at) run) told.hands_are) (λ e. omega (arith, e))
       (both_looks v w at goal run over after told next.moment)
-      (saw_at meaning_of rules room x (run_word at) value last moment)
+      (saw_at meaning_of rules capacity x (run_word at) value last moment)
 
-  pub claims_goal : {v w x u : Hands R} {at goal run value : ℕ} → at < room → AreHandsOver meaning_of rules room v
-      → AreHandsOver meaning_of rules room w → AreHandsOver meaning_of rules room x
+  pub claims_goal : {v w x u : Hands R} {at goal run value : ℕ} → at < capacity
+      → AreHandsOver meaning_of rules capacity v
+      → AreHandsOver meaning_of rules capacity w → AreHandsOver meaning_of rules capacity x
       → LooksAt meaning_of v (cell_word at) goal w → goal ≢ 0 → (meaning_of rules).goal goal ≡ true
       → LooksAt meaning_of w (run_word at) run x → run ≡ 0
       → Tries meaning_of x (run_word at) value (claimed x at) u → value ≡ 0
-      → ClaimsGoal (meaning_of rules) room v at (record { place = at; goal = goal; waits = 0 }) u
+      → ClaimsGoal (meaning_of rules) capacity v at (record { place = at; goal = goal; waits = 0 }) u
   claims_goal {v} {w} {x} {u} {at} {goal} {run} {value} near over after last told some_goal is_goal next ready tries
       free =
       let looked_is : x ≡ looked (looked v (cell_word at) goal) (run_word at) 0 =
@@ -110,7 +111,7 @@ module _ {R : Type 0} {meaning_of : R → Meaning} {rules : R} {room : ℕ} wher
       record {
         there = refl;
         no_waits = refl;
-        its = subst (λ (h : Hands R). IsRightOf (meaning_of rules) room h
+        its = subst (λ (h : Hands R). IsRightOf (meaning_of rules) capacity h
             (record { place = at; goal = goal; waits = 0 })) (sym is) (record {
               near = near;
               held = inl refl;
@@ -130,11 +131,11 @@ module _ {R : Type 0} {meaning_of : R → Meaning} {rules : R} {room : ℕ} wher
       }
 
   -- the look at the run word found it taken
-  pub finds_taken : {v w u : Hands R} {at goal value : ℕ} → AreHandsOver meaning_of rules room v
-      → AreHandsOver meaning_of rules room w
+  pub finds_taken : {v w u : Hands R} {at goal value : ℕ} → AreHandsOver meaning_of rules capacity v
+      → AreHandsOver meaning_of rules capacity w
       → LooksAt meaning_of v (cell_word at) goal w → goal ≢ 0 → (meaning_of rules).goal goal ≡ true
       → LooksAt meaning_of w (run_word at) value u → value ≢ 0
-      → FindsBusy (meaning_of rules) room v at u
+      → FindsBusy (meaning_of rules) capacity v at u
   finds_taken {v} {w} {at} {goal} {value} over after told some_goal is_goal next taken = record {
     more = (run_word at, value) ∷ ((cell_word at, goal) ∷ []);
     looks = both_looks v w at goal value over after told next.moment;
@@ -154,12 +155,12 @@ module _ {R : Type 0} {meaning_of : R → Meaning} {rules : R} {room : ℕ} wher
   }
 
   -- or the step after it
-  pub finds_busy : {v w x u : Hands R} {at goal run value : ℕ} → AreHandsOver meaning_of rules room v
-      → AreHandsOver meaning_of rules room w → AreHandsOver meaning_of rules room x
+  pub finds_busy : {v w x u : Hands R} {at goal run value : ℕ} → AreHandsOver meaning_of rules capacity v
+      → AreHandsOver meaning_of rules capacity w → AreHandsOver meaning_of rules capacity x
       → LooksAt meaning_of v (cell_word at) goal w → goal ≢ 0 → (meaning_of rules).goal goal ≡ true
       → LooksAt meaning_of w (run_word at) run x
       → Tries meaning_of x (run_word at) value (claimed x at) u → value ≢ 0
-      → FindsBusy (meaning_of rules) room v at u
+      → FindsBusy (meaning_of rules) capacity v at u
   finds_busy {v} {w} {x} {at} {goal} {run} {value} over after last told some_goal is_goal next tries taken = record {
     more = (run_word at, value) ∷ ((run_word at, run) ∷ ((cell_word at, goal) ∷ []));
     looks = three_looks v w x at goal run value over after last told next tries.moment;
@@ -180,7 +181,7 @@ module _ {R : Type 0} {meaning_of : R → Meaning} {rules : R} {room : ℕ} wher
   }
 
   -- a right was given up
-  suspends : (v w : Hands R) (place found : ℕ) (answer : Suspended) → AreHandsOver meaning_of rules room v
+  suspends : (v w : Hands R) (place found : ℕ) (answer : Suspended) → AreHandsOver meaning_of rules capacity v
       → SuspendsAt meaning_of v place found w → ShowsWait answer found → (answer ≡ Ready → cleared found 8 ≡ 0)
       → SuspendsGoal v place answer w
   suspends v w place found answer over told waits ready = record {
@@ -190,23 +191,24 @@ module _ {R : Type 0} {meaning_of : R → Meaning} {rules : R} {room : ℕ} wher
     ready = ready;
     not_ready = wait_left found;
     looks = seen_one v (run_word place, found) (λ e. omega (arith, e))
-        (saw_at meaning_of rules room v (run_word place) found over told.moment);
+        (saw_at meaning_of rules capacity v (run_word place) found over told.moment);
   }
 
-  pub suspends_ready : {v w : Hands R} {place found : ℕ} → AreHandsOver meaning_of rules room v
+  pub suspends_ready : {v w : Hands R} {place found : ℕ} → AreHandsOver meaning_of rules capacity v
       → SuspendsAt meaning_of v place found w → found ≡ 256 → SuspendsGoal v place Ready w
   suspends_ready {v} {w} {place} {found} over told held =
       suspends v w place found Ready over told (subst (λ n. HasWait n → ⊥) (sym held) no_wait)
       (λ _. ap (λ n. cleared n 8) held)
 
-  pub suspends_waiting : {v w : Hands R} {place found : ℕ} → AreHandsOver meaning_of rules room v
-      → MaySuspend room v place → SuspendsAt meaning_of v place found w → found ≢ 256 → SuspendsGoal v place Waiting w
+  pub suspends_waiting : {v w : Hands R} {place found : ℕ} → AreHandsOver meaning_of rules capacity v
+      → MaySuspend capacity v place → SuspendsAt meaning_of v place found w → found ≢ 256
+      → SuspendsGoal v place Waiting w
   suspends_waiting {v} {w} {place} {found} over may told more =
-      let t = sound_at meaning_of rules room v (run_word place) found over told.moment in
+      let t = sound_at meaning_of rules capacity v (run_word place) found over told.moment in
       let s = t.0 in
       let m = mem s.words in
       let near = may.has.near in
-      let is = held_by room m.run m.head s.views s.id v place s.mine may.has s.sound.by_kinds.rights in
+      let is = held_by capacity m.run m.head s.views s.id v place s.mine may.has s.sound.by_kinds.rights in
       let one : bit_at found 8 ≡ 1 = ap (λ n. bit_at n 8) t.1 ∙ is.runs in
       let small = (s.sound.by_kinds.rights place near).small in
       suspends v w place found Waiting over told

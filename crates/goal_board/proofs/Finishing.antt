@@ -5,7 +5,8 @@ use Rattle.std.proofs.lemmas.Bool.{cases_eq}
 use Rattle.board_rule.specs.Meaning.{Meaning}
 use Rattle.board_rule.specs.Records.{Claimed}
 use Rattle.board_rule.specs.Words.{mem, head_word, cost_word, node_word, who_word}
-use Rattle.board_rule.specs.Seats.{Among, Each, changed, fresh_right, answered_right, without, with_cost, with_node, with_who}
+use Rattle.board_rule.specs.Seats.{Among, Each, changed, fresh_right}
+use Rattle.board_rule.specs.Seats.{answered_right, without, with_cost, with_node, with_who}
 use Rattle.board_rule.specs.Seats.{cost_stored, node_stored, who_stored}
 use Rattle.board_rule.specs.May.{HasRight}
 use Rattle.board_rule.specs.Plays.{Moment}
@@ -120,9 +121,9 @@ who_among rights place worker cost node at =
     refl at
 
 -- a right that is among a seat's is one that it has
-pub has_right : (room : ℕ) (rights : List Claimed) (r : Claimed) → r.place < room → Among rights r
-    → HasRight room rights r.place
-has_right room rights r near at = record { near = near; held = among_counts (λ (q : Claimed). q.place) rights r at }
+pub has_right : (capacity : ℕ) (rights : List Claimed) (r : Claimed) → r.place < capacity → Among rights r
+    → HasRight capacity rights r.place
+has_right capacity rights r near at = record { near = near; held = among_counts (λ (q : Claimed). q.place) rights r at }
 
 -- the rights that are left once the answer was stored and the right was spent
 pub left_over : (rights : List Claimed) (place worker cost node : ℕ)
@@ -140,11 +141,11 @@ left_over rights place worker cost node few =
     ∙ without_changed place (λ r. record r { cost = Some cost }) (λ _. refl) rights (omega arith)
 
 -- a seat has the right to a goal once
-pub once_held : {R : Type 0} (meaning_of : R → Meaning) (rules : R) (room : ℕ) (v : Hands R) (word value place : ℕ)
-    → AreHandsOver meaning_of rules room v → Moment meaning_of v word value
-    → place < room → rights_at place v.rights ≤ 1
-once_held meaning_of rules room v word value place over moment near =
-    let s = (sound_at meaning_of rules room v word value over moment).0 in
+pub once_held : {R : Type 0} (meaning_of : R → Meaning) (rules : R) (capacity : ℕ) (v : Hands R) (word value place : ℕ)
+    → AreHandsOver meaning_of rules capacity v → Moment meaning_of v word value
+    → place < capacity → rights_at place v.rights ≤ 1
+once_held meaning_of rules capacity v word value place over moment near =
+    let s = (sound_at meaning_of rules capacity v word value over moment).0 in
     omega (
       arith,
       term_le (λ (u : Hands _). rights_at place u.rights) s.views s.id v s.mine,
@@ -152,21 +153,21 @@ once_held meaning_of rules room v word value place over moment near =
     )
 
 -- the goal whose right is spent was not finished, by the words that are kept before its answer was stored
-pub open_before : {R : Type 0} (meaning_of : R → Meaning) (rules : R) (room : ℕ) (v u : Hands R)
-    (place worker cost node found : ℕ) → AreHandsOver meaning_of rules room u
+pub open_before : {R : Type 0} (meaning_of : R → Meaning) (rules : R) (capacity : ℕ) (v u : Hands R)
+    (place worker cost node found : ℕ) → AreHandsOver meaning_of rules capacity u
     → u ≡ who_stored (node_stored (cost_stored v place cost) place node) place (worker + 1)
-    → Moment meaning_of u (head_word place) found → place < room → Among v.rights (fresh_right place)
+    → Moment meaning_of u (head_word place) found → place < capacity → Among v.rights (fresh_right place)
     → (kept : List ℕ) → v.alone ≡ Some kept → (mem kept).head place < 2 ^ 63
-open_before meaning_of rules room v u place worker cost node found over stored moment near held kept is =
-    let s = (sound_at meaning_of rules room u (head_word place) found over moment).0 in
+open_before meaning_of rules capacity v u place worker cost node found over stored moment near held kept is =
+    let s = (sound_at meaning_of rules capacity u (head_word place) found over moment).0 in
     let m = mem s.words in
     let first : List Claimed = with_cost place cost v.rights in
     let second : List Claimed = with_node place node first in
-    let has : HasRight room u.rights place = subst (λ (h : Hands _). HasRight room h.rights place) (sym stored)
-    (has_right room (with_who place (worker + 1) second) (answered_right place worker cost node) near
+    let has : HasRight capacity u.rights place = subst (λ (h : Hands _). HasRight capacity h.rights place) (sym stored)
+    (has_right capacity (with_who place (worker + 1) second) (answered_right place worker cost node) near
     (who_among second place worker cost node
     (node_among first place cost node (cost_among v.rights place cost held)))) in
-    let is_open = (held_by room m.run m.head s.views s.id u place s.mine has s.sound.by_kinds.rights).is_open in
+    let is_open = (held_by capacity m.run m.head s.views s.id u place s.mine has s.sound.by_kinds.rights).is_open in
     let with_first_word : List ℕ = set kept (cost_word place) cost in
     let with_both : List ℕ = set with_first_word (node_word place) node in
     let alone : u.alone ≡ Some (set with_both (who_word place) (worker + 1)) =

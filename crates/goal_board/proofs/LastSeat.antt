@@ -46,8 +46,8 @@ counted_among place_of p (x ∷ xs) some_one =
     let t = counted_among place_of p xs (omega arith) in (t.0, inr t.1, t.2))
     (cases_eq (place_of x) p)
 
-module _ {R : Type 0} (meaning : Meaning) (rules : R) (room : ℕ) (words : List ℕ) (views : List (Hands R))
-    (sound : IsSound meaning rules room words views)
+module _ {R : Type 0} (meaning : Meaning) (rules : R) (capacity : ℕ) (words : List ℕ) (views : List (Hands R))
+    (sound : IsSound meaning rules capacity words views)
     (id : ℕ) (v : Hands R) (mine : get_elem? views id ≡ some v) (all : v.parts ≡ 64) where
   -- every other seat is spent
   others_spent : (k : ℕ) (u : Hands R) → k ≢ id → get_elem? views k ≡ some u → u ≡ spent
@@ -64,9 +64,9 @@ module _ {R : Type 0} (meaning : Meaning) (rules : R) (room : ℕ) (words : List
   last_sum f none = one_term f views id v mine (λ k u apart there. ap f (others_spent k u apart there) ∙ none)
 
   -- what is finished was finished by the seat, or by one that it took in
-  pub finished_by : (p : ℕ) → p < room → 2 ^ 63 ≤ (mem words).head p
+  pub finished_by : (p : ℕ) → p < capacity → 2 ^ 63 ≤ (mem words).head p
       → (e : Ended) × Among v.done e × (e.place ≡ p)
-      × IsRecorded room (mem words).head (mem words).cost (mem words).node (mem words).who e
+      × IsRecorded capacity (mem words).head (mem words).cost (mem words).node (mem words).who e
   finished_by p near closed =
       let some_one : 1 ≤ times (λ (e : Ended). e.place) p v.done =
       let was = sound.by_kinds.rights p near in
@@ -77,11 +77,11 @@ module _ {R : Type 0} (meaning : Meaning) (rules : R) (room : ℕ) (words : List
         t.0,
         t.1,
         t.2,
-        each_at (IsRecorded room (mem words).head (mem words).cost (mem words).node (mem words).who)
+        each_at (IsRecorded capacity (mem words).head (mem words).cost (mem words).node (mem words).who)
             v.done t.0 (sound.by_kinds.hands id v mine).recorded t.1,
       )
 
-  pub has_workers : HasWorkers (mem words) room
+  pub has_workers : HasWorkers (mem words) capacity
   has_workers p near closed =
       let t = finished_by p near closed in
       let e : (mem words).who p ≡ t.0.worker + 1 = subst (λ q. (mem words).who q ≡ t.0.worker + 1) t.2 t.3.who_is in
@@ -91,23 +91,23 @@ module _ {R : Type 0} (meaning : Meaning) (rules : R) (room : ℕ) (words : List
   pub all_finished : v.rights ≡ [] → IsFree v
       → ((goal child : ℕ) → meaning.entry goal → meaning.child goal child → IsTrue (meaning.goal child))
       → (rank : ℕ → ℕ) → ((goal child : ℕ) → meaning.child goal child → rank child < rank goal)
-      → ((p : ℕ) → p < room → IsReadyAt meaning (mem words) p → ⊥) → (p : ℕ) → p < room
-      → HoldsGoal meaning room (mem words).cell p → 2 ^ 63 ≤ (mem words).head p
+      → ((p : ℕ) → p < capacity → IsReadyAt meaning (mem words) p → ⊥) → (p : ℕ) → p < capacity
+      → HoldsGoal meaning capacity (mem words).cell p → 2 ^ 63 ≤ (mem words).head p
   all_finished no_right free children rank falls none_ready =
-      no_wake_up_lost meaning rules room (mem words) views id v sound.by_kinds mine all no_right free.no_wait
+      no_wake_up_lost meaning rules capacity (mem words) views id v sound.by_kinds mine all no_right free.no_wait
       free.no_walk children rank falls
       (λ p near holds ready. none_ready p near (record { some_goal = holds.0; is_goal = holds.1; ready = ready }))
 
 -- what is said of a board that was closed
-pub closes_with : {R : Type 0} → (meaning_of : R → Meaning) (rules : R) (room : ℕ) (words : List ℕ)
-    (views : List (Hands R)) (sound : IsSound (meaning_of rules) rules room words views)
+pub closes_with : {R : Type 0} → (meaning_of : R → Meaning) (rules : R) (capacity : ℕ) (words : List ℕ)
+    (views : List (Hands R)) (sound : IsSound (meaning_of rules) rules capacity words views)
     (id : ℕ) (v : Hands R) (mine : get_elem? views id ≡ some v) (all : v.parts ≡ 64) → v.rights ≡ [] → IsFree v
     → ((goal child : ℕ) → (meaning_of rules).entry goal → (meaning_of rules).child goal child
     → IsTrue ((meaning_of rules).goal child))
     → (rank : ℕ → ℕ) → ((goal child : ℕ) → (meaning_of rules).child goal child → rank child < rank goal)
-    → (closed : Closed) → ReadsBoard (meaning_of rules) room (mem words) closed
-    → ClosesWith meaning_of rules room v closed
-closes_with meaning_of rules room words views sound id v mine all no_right free children rank falls closed reads =
+    → (closed : Closed) → ReadsBoard (meaning_of rules) capacity (mem words) closed
+    → ClosesWith meaning_of rules capacity v closed
+closes_with meaning_of rules capacity words views sound id v mine all no_right free children rank falls closed reads =
     record {
       words = words;
       views = views;
@@ -115,10 +115,11 @@ closes_with meaning_of rules room words views sound id v mine all no_right free 
       sound = sound;
       mine = mine;
       reads = reads;
-      none_ready = λ none. all_finished (meaning_of rules) rules room words views sound id v mine all no_right free children
-          rank falls (subst (IsFirstReady (meaning_of rules) (mem words) room) none reads.ready);
-      finished_by = finished_by (meaning_of rules) rules room words views sound id v mine all;
-      registered = λ c q near at. registered_not_ready (meaning_of rules) room
+      none_ready = λ none. all_finished (meaning_of rules) rules capacity words views sound id v mine all no_right
+          free children
+          rank falls (subst (IsFirstReady (meaning_of rules) (mem words) capacity) none reads.ready);
+      finished_by = finished_by (meaning_of rules) rules capacity words views sound id v mine all;
+      registered = λ c q near at. registered_not_ready (meaning_of rules) capacity
           (mem words) views sound.by_kinds.waits c q
           near (among_counts (λ (p : ℕ). p) (sound.by_kinds.waits.lists c) q at);
       filled = λ shows. reads.full ∙ ap not (ne_eqb (mem words).full 0

@@ -34,11 +34,11 @@ among_unchanged place change rights r apart at =
     subst (λ b. Among (changed_at place change rights) (cond b (change r) r)) (ne_eqb r.place place apart)
     (among_map (λ (q : Claimed). cond (q.place == place) (change q) q) rights r at)
 
-module _ {R : Type 0} {meaning : Meaning} {room : ℕ} {v w : Hands R} where
+module _ {R : Type 0} {meaning : Meaning} {capacity : ℕ} {v w : Hands R} where
   -- a right stays where its look and the right stay
   right_stays : (right : Right) (more : List (ℕ × ℕ)) → w.looks ≡ more ++ v.looks
-      → Among w.rights (waiting_right right.place right.waits) → IsRightOf meaning room v right
-      → IsRightOf meaning room w right
+      → Among w.rights (waiting_right right.place right.waits) → IsRightOf meaning capacity v right
+      → IsRightOf meaning capacity w right
   right_stays right more looks held old = record {
     near = old.near;
     held = held;
@@ -50,38 +50,40 @@ module _ {R : Type 0} {meaning : Meaning} {room : ℕ} {v w : Hands R} where
     enters = old.enters;
   }
 
-  pub busy_keeps : {at : ℕ} → FindsBusy meaning room v at w → KeepsRights meaning room v w
+  pub busy_keeps : {at : ℕ} → FindsBusy meaning capacity v at w → KeepsRights meaning capacity v w
   busy_keeps t right old =
       right_stays right t.more (ap (λ (h : Hands R). h.looks) t.hands_are)
       (subst (λ (h : Hands R). Among h.rights (waiting_right right.place right.waits)) (sym t.hands_are) old.held) old
 
-  pub claim_keeps : {at : ℕ} {claimed : Right} → ClaimsGoal meaning room v at claimed w → KeepsRights meaning room v w
+  pub claim_keeps : {at : ℕ} {claimed : Right} → ClaimsGoal meaning capacity v at claimed w
+      → KeepsRights meaning capacity v w
   claim_keeps {at} {claimed} t right old =
       right_stays right (_ ∷ (_ ∷ (_ ∷ []))) (ap (λ (h : Hands R). h.looks) t.hands_are)
       (subst (λ (h : Hands R). Among h.rights (waiting_right right.place right.waits)) (sym t.hands_are)
       (inr old.held)) old
 
   pub suspend_keeps : {place : ℕ} {answer : Suspended} → SuspendsGoal v place answer w
-      → KeepsOthers meaning room place v w
+      → KeepsOthers meaning capacity place v w
   suspend_keeps {place} t right apart old =
       right_stays right (_ ∷ []) (ap (λ (h : Hands R). h.looks) t.hands_are)
       (subst (λ (h : Hands R). Among h.rights (waiting_right right.place right.waits)) (sym t.hands_are)
       (among_left place v.rights (waiting_right right.place right.waits) apart old.held)) old
 
-  pub register_keeps : {place at : ℕ} → Registers room v place at w → KeepsOthers meaning room place v w
+  pub register_keeps : {place at : ℕ} → Registers capacity v place at w → KeepsOthers meaning capacity place v w
   register_keeps {place} t right apart old =
       right_stays right t.more (ap (λ (h : Hands R). h.looks) t.hands_are)
       (subst (λ (h : Hands R). Among h.rights (waiting_right right.place right.waits)) (sym t.hands_are)
       (among_unchanged place (λ r. record r { waits = r.waits + 1 }) v.rights (waiting_right right.place right.waits)
       apart old.held)) old
 
-  pub finished_keeps : {place at : ℕ} → FindsFinished room v place at w → KeepsOthers meaning room place v w
+  pub finished_keeps : {place at : ℕ} → FindsFinished capacity v place at w → KeepsOthers meaning capacity place v w
   finished_keeps t right apart old =
       right_stays right t.more (ap (λ (h : Hands R). h.looks) t.hands_are)
       (subst (λ (h : Hands R). Among h.rights (waiting_right right.place right.waits)) (sym t.hands_are) old.held) old
 
-  pub finish_keeps : {place worker cost node : ℕ} {woken : Woken} → FinishesGoal room v place worker cost node woken w
-      → KeepsOthers meaning room place v w
+  pub finish_keeps : {place worker cost node : ℕ} {woken : Woken}
+      → FinishesGoal capacity v place worker cost node woken w
+      → KeepsOthers meaning capacity place v w
   finish_keeps {place} t right apart old =
       let closed : ℕ × ℕ = (head_word place, head_of t.waiters) in
       right_stays right (t.wakes.more ++ closed ∷ [])

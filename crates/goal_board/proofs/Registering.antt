@@ -31,16 +31,16 @@ kept_linked q x o p old =
     (board_then (q / 8) sets (λ run. run)) o p (changed (next_word q) x p) old
     (stays_changed (KeepsBoard (q / 8) (λ run. run)) (next_word q) x p (λ kept _. next_set (q / 8) x kept q))
 
-module _ {R : Type 0} (meaning_of : R → Meaning) (rules : R) (room : ℕ) where
+module _ {R : Type 0} (meaning_of : R → Meaning) (rules : R) (capacity : ℕ) where
   -- a step found the word that is kept
-  kept_word : (v : Hands R) (word found : ℕ) → AreHandsOver meaning_of rules room v → Moment meaning_of v word found
+  kept_word : (v : Hands R) (word found : ℕ) → AreHandsOver meaning_of rules capacity v → Moment meaning_of v word found
       → (kept : List ℕ) → v.alone ≡ Some kept → found ≡ get_or kept word 0
   kept_word v word found over moment kept is =
-      sym (agrees_at meaning_of rules room v word found over moment kept is word found (inl (refl, refl)))
+      sym (agrees_at meaning_of rules capacity v word found over moment kept is word found (inl (refl, refl)))
 
   -- the bit of the right's next wait was set
-  pub kept_begun : (v : Hands R) (place waits found : ℕ) → AreHandsOver meaning_of rules room v
-      → Moment meaning_of v (run_word place) found → place < room → waits < 8
+  pub kept_begun : (v : Hands R) (place waits found : ℕ) → AreHandsOver meaning_of rules capacity v
+      → Moment meaning_of v (run_word place) found → place < capacity → waits < 8
       → waits_at place v.rights ≡ waits → Begun (8 * place + waits) v.alone (wait_begun v place found).alone
   kept_begun v place waits found over moment near few is =
       let parts = waiter_parts place waits few in
@@ -54,8 +54,8 @@ module _ {R : Type 0} (meaning_of : R → Meaning) (rules : R) (room : ℕ) wher
       (kept_word v (run_word place) found over moment kept alone))))
 
   -- the child's head, which was open, was given one waiter more
-  kept_put : (u : Hands R) (q child head x : ℕ) (o : Option (List ℕ)) → AreHandsOver meaning_of rules room u
-      → Moment meaning_of u (head_word child) head → child < room → head < 2 ^ 63 → x < 2 ^ 63
+  kept_put : (u : Hands R) (q child head x : ℕ) (o : Option (List ℕ)) → AreHandsOver meaning_of rules capacity u
+      → Moment meaning_of u (head_word child) head → child < capacity → head < 2 ^ 63 → x < 2 ^ 63
       → Begun q o u.alone → Begun q o (changed (head_word child) x u.alone)
   kept_put u q child head x o over moment near was_open is_open old =
       let sets : ℕ → ℕ = λ run. bit_or run (2 ^ (q % 8)) in
@@ -66,8 +66,8 @@ module _ {R : Type 0} (meaning_of : R → Meaning) (rules : R) (room : ℕ) wher
       (subst (λ n. n < 2 ^ 63) (kept_word u (head_word child) head over moment kept alone) was_open) is_open))
 
   -- the bit was cleared
-  kept_dropped : (u : Hands R) (q found : ℕ) (o : Option (List ℕ)) → AreHandsOver meaning_of rules room u
-      → Moment meaning_of u (run_word (q / 8)) found → q / 8 < room → Begun q o u.alone
+  kept_dropped : (u : Hands R) (q found : ℕ) (o : Option (List ℕ)) → AreHandsOver meaning_of rules capacity u
+      → Moment meaning_of u (run_word (q / 8)) found → q / 8 < capacity → Begun q o u.alone
       → StaysAlone (KeepsBoard (q / 8) (λ run. cleared (bit_or run (2 ^ (q % 8))) (q % 8))) o
       (changed (run_word (q / 8)) (cleared found (q % 8)) u.alone)
   kept_dropped u q found o over moment near old =
@@ -81,11 +81,11 @@ module _ {R : Type 0} (meaning_of : R → Meaning) (rules : R) (room : ℕ) wher
       (ap clears (kept_word u (run_word (q / 8)) found over moment kept alone))))
 
   -- the bit of a right's next wait was not set before
-  next_unset : (v : Hands R) (place waits found : ℕ) → AreHandsOver meaning_of rules room v
-      → Moment meaning_of v (run_word place) found → place < room → waits < 8
+  next_unset : (v : Hands R) (place waits found : ℕ) → AreHandsOver meaning_of rules capacity v
+      → Moment meaning_of v (run_word place) found → place < capacity → waits < 8
       → Among v.rights (waiting_right place waits) → v.pending ≡ None → cleared (bit_or found (2 ^ waits)) waits ≡ found
   next_unset v place waits found over moment near few held none_pending =
-      let t = sound_at meaning_of rules room v (run_word place) found over moment in
+      let t = sound_at meaning_of rules capacity v (run_word place) found over moment in
       let s = t.0 in
       let m = mem s.words in
       let raised : IsRaised m.run v.pending (waiting_right place waits) =
@@ -97,11 +97,11 @@ module _ {R : Type 0} (meaning_of : R → Meaning) (rules : R) (room : ℕ) wher
       (λ i high. ap (λ n. bit_at n i) t.1 ∙ (s.sound.by_kinds.rights place near).small i high)
 
   -- the goal waits for the child
-  pub registers : (v w u z : Hands R) (place waits child head : ℕ) → room ≤ 2 ^ 20 → place < room → waits < 8
+  pub registers : (v w u z : Hands R) (place waits child head : ℕ) → capacity ≤ 2 ^ 20 → place < capacity → waits < 8
       → waits_at place v.rights ≡ waits → v.pending ≡ None
-      → IsPutting room v (8 * place + waits) child head w → u ≡ next_stored w (the_wait w) head
-      → AreHandsOver meaning_of rules room u → Moment meaning_of u (head_word child) head
-      → child < room → head < 2 ^ 63 → z ≡ wait_put u (the_wait u) head → Registers room v place child z
+      → IsPutting capacity v (8 * place + waits) child head w → u ≡ next_stored w (the_wait w) head
+      → AreHandsOver meaning_of rules capacity u → Moment meaning_of u (head_word child) head
+      → child < capacity → head < 2 ^ 63 → z ≡ wait_put u (the_wait u) head → Registers capacity v place child z
   registers v w u z place waits child head small near few is none_pending p linked over moment child_near was_open put =
       let q : ℕ = 8 * place + waits in
       let parts = waiter_parts place waits few in
@@ -161,20 +161,20 @@ module _ {R : Type 0} (meaning_of : R → Meaning) (rules : R) (room : ℕ) wher
       }
 
   -- the child is finished
-  pub finds_finished : (v w z : Hands R) (place waits child head first found : ℕ) → place < room → waits < 8
-      → v.pending ≡ None → Among v.rights (waiting_right place waits) → HasRight room v.rights place
-      → AreHandsOver meaning_of rules room v → Moment meaning_of v (run_word place) first
-      → IsPutting room v (8 * place + waits) child head w → 2 ^ 63 ≤ head
-      → AreHandsOver meaning_of rules room w → Leaves meaning_of w (run_word ((8 * place + waits) / 8)) found
-      (wait_dropped w (the_wait w) found) z → FindsFinished room v place child z
+  pub finds_finished : (v w z : Hands R) (place waits child head first found : ℕ) → place < capacity → waits < 8
+      → v.pending ≡ None → Among v.rights (waiting_right place waits) → HasRight capacity v.rights place
+      → AreHandsOver meaning_of rules capacity v → Moment meaning_of v (run_word place) first
+      → IsPutting capacity v (8 * place + waits) child head w → 2 ^ 63 ≤ head
+      → AreHandsOver meaning_of rules capacity w → Leaves meaning_of w (run_word ((8 * place + waits) / 8)) found
+      (wait_dropped w (the_wait w) found) z → FindsFinished capacity v place child z
   finds_finished v w z place waits child head first found near few none_pending held has over_v first_moment p closed
       over_w told =
       let q : ℕ = 8 * place + waits in
       let parts = waiter_parts place waits few in
       let is = told.hands_are ∙ ap (λ (h : Hands R). wait_dropped h (the_wait h) found) p.hands_are in
-      let at : HasRight room v.rights (q / 8) = subst (HasRight room v.rights) (sym parts.0) has in
-      let left = stays_held meaning_of rules room w q found over_w told.moment
-      (subst (λ (h : Hands R). HasRight room h.rights (q / 8)) (sym p.hands_are) at) in
+      let at : HasRight capacity v.rights (q / 8) = subst (HasRight capacity v.rights) (sym parts.0) has in
+      let left = stays_held meaning_of rules capacity w q found over_w told.moment
+      (subst (λ (h : Hands R). HasRight capacity h.rights (q / 8)) (sym p.hands_are) at) in
       let looks : List (ℕ × ℕ) = (run_word (q / 8), found) ∷ p.more in
       let dropped = kept_dropped w q found v.alone over_w told.moment at.near p.kept in
       let here : StaysAlone (KeepsBoard place (λ run. cleared (bit_or run (2 ^ waits)) waits)) v.alone z.alone =

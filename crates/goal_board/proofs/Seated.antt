@@ -4,7 +4,7 @@ use Rattle.board_rule.specs.Meaning.{Meaning}
 use Rattle.board_rule.specs.Words.{cell_word}
 use Rattle.board_rule.specs.Records.{Claimed}
 use Rattle.board_rule.specs.May.{HasRight}
-use Rattle.board_rule.specs.declared.law.Key.{Key}
+use Rattle.board_rule.specs.declared.law.Setup.{Setup}
 use Rattle.board_rule.specs.Seats.{changed}
 use Rattle.board_rule.specs.Plays.{Sat, Tries}
 use Rattle.board_rule.specs.declared.hands.Hands.{Hands}
@@ -38,53 +38,58 @@ module _ {R : Type 0} (s : Seat R) where
   }
 
 -- what holds of the board's rules and cells holds of those by its table's law
-pub lawful : {R : Type 0} (b : Board R) (Fact : R → ℕ → Type 0) → Fact b.key.rules b.key.room
-    → Fact b.table.shared.key.rules b.table.shared.key.room
-lawful b Fact holds = subst (λ (k : Key _). Fact k.rules k.room) (sym b.keyed) holds
+pub lawful : {R : Type 0} (b : Board R) (Fact : R → ℕ → Type 0) → Fact b.setup.rules b.setup.capacity
+    → Fact b.table.shared.key.rules b.table.shared.key.capacity
+lawful b Fact holds = subst (λ (k : Setup _). Fact k.rules k.capacity) (sym b.keyed) holds
 
 -- as a right to a goal
-pub lawful_right : {R : Type 0} (b : Board R) {rights : List Claimed} {place : ℕ} → HasRight b.key.room rights place
-    → HasRight b.table.shared.key.room rights place
-lawful_right b {rights} {place} has = lawful b (λ _ room. HasRight room rights place) has
+pub lawful_right : {R : Type 0} (b : Board R) {rights : List Claimed} {place : ℕ}
+    → HasRight b.setup.capacity rights place
+    → HasRight b.table.shared.key.capacity rights place
+lawful_right b {rights} {place} has = lawful b (λ _ capacity. HasRight capacity rights place) has
 
 module _ {R : Type 0} {meaning_of : R → Meaning} {b : Board R} {t : Seat R}
     (same_table : t.seat.table_id ≡ b.table.shared.table_id) where
   -- hands with the same looks leave the seat in its call
-  pub in_call_same : {v left : Hands R} → hands t ≡ left → left.rules ≡ v.rules → left.room ≡ v.room
-      → left.looks ≡ v.looks → KeepsAll b.key.room left
-      → AreHandsOver meaning_of b.key.rules b.key.room v → IsInCall meaning_of b t
-  in_call_same {v} {left} left_is rules_same room_same looks all over = record {
+  pub in_call_same : {v left : Hands R} → hands t ≡ left → left.rules ≡ v.rules → left.capacity ≡ v.capacity
+      → left.looks ≡ v.looks → KeepsAll b.setup.capacity left
+      → AreHandsOver meaning_of b.setup.rules b.setup.capacity v → IsInCall meaning_of b t
+  in_call_same {v} {left} left_is rules_same capacity_same looks all over = record {
     same_table = same_table;
-    over = subst (AreHandsOver meaning_of b.key.rules b.key.room) (sym left_is)
-        (over_same meaning_of b.key.rules b.key.room v left rules_same room_same looks all over);
+    over = subst (AreHandsOver meaning_of b.setup.rules b.setup.capacity) (sym left_is)
+        (over_same meaning_of b.setup.rules b.setup.capacity v left rules_same capacity_same looks all over);
   }
 
   -- and so do hands whose only new look is at no cell
-  pub in_call_beside : {v left : Hands R} {word value : ℕ} → hands t ≡ left → left.rules ≡ v.rules → left.room ≡ v.room
+  pub in_call_beside : {v left : Hands R} {word value : ℕ} → hands t ≡ left → left.rules ≡ v.rules
+      → left.capacity ≡ v.capacity
       → left.looks ≡ (word, value) ∷ v.looks → ((p : ℕ) → word ≢ cell_word p)
-      → KeepsAll b.key.room left → AreHandsOver meaning_of b.key.rules b.key.room v → IsInCall meaning_of b t
-  in_call_beside {v} {left} {word} {value} left_is rules_same room_same looks apart all over = record {
+      → KeepsAll b.setup.capacity left → AreHandsOver meaning_of b.setup.rules b.setup.capacity v
+      → IsInCall meaning_of b t
+  in_call_beside {v} {left} {word} {value} left_is rules_same capacity_same looks apart all over = record {
     same_table = same_table;
-    over = subst (AreHandsOver meaning_of b.key.rules b.key.room) (sym left_is)
-        (over_beside meaning_of b.key.rules b.key.room v left word value rules_same room_same looks apart all over);
+    over = subst (AreHandsOver meaning_of b.setup.rules b.setup.capacity) (sym left_is)
+        (over_beside meaning_of b.setup.rules b.setup.capacity v left word value rules_same capacity_same looks apart
+        all over);
   }
 
   -- free hands of this kind leave a seat of the board
-  pub seat_beside : {v left : Hands R} {word value : ℕ} → hands t ≡ left → left.rules ≡ v.rules → left.room ≡ v.room
+  pub seat_beside : {v left : Hands R} {word value : ℕ} → hands t ≡ left → left.rules ≡ v.rules
+      → left.capacity ≡ v.capacity
       → left.looks ≡ (word, value) ∷ v.looks → ((p : ℕ) → word ≢ cell_word p)
-      → KeepsAll b.key.room left → IsFree left → AreHandsOver meaning_of b.key.rules b.key.room v
+      → KeepsAll b.setup.capacity left → IsFree left → AreHandsOver meaning_of b.setup.rules b.setup.capacity v
       → IsSeatOf meaning_of b t
-  seat_beside left_is rules_same room_same looks apart all free over =
-      let call : IsInCall meaning_of b t = in_call_beside left_is rules_same room_same looks apart all over in
+  seat_beside left_is rules_same capacity_same looks apart all free over =
+      let call : IsInCall meaning_of b t = in_call_beside left_is rules_same capacity_same looks apart all over in
       record { same_table = same_table; over = call.over; free = subst IsFree (sym left_is) free }
 
   -- a store by the holder of a right does so
   pub seat_stored : {v : Hands R} (word x : ℕ) {rights : List Claimed}
       → hands t ≡ record v { alone = changed word x v.alone; rights = rights }
-      → AreHandsOver meaning_of b.key.rules b.key.room v → IsFree v → IsSeatOf meaning_of b t
+      → AreHandsOver meaning_of b.setup.rules b.setup.capacity v → IsFree v → IsSeatOf meaning_of b t
   seat_stored {v} word x told over free =
       let call : IsInCall meaning_of b t = in_call_same told refl refl refl
-      (all_changed b.key.room word x v.alone over.all) over in
+      (all_changed b.setup.capacity word x v.alone over.all) over in
       record {
         same_table = same_table;
         over = call.over;
@@ -93,11 +98,11 @@ module _ {R : Type 0} {meaning_of : R → Meaning} {b : Board R} {t : Seat R}
 
   -- and so does a compare-exchange from 0 that leaves such hands where it found 0
   pub seat_tried : {v won : Hands R} {word value : ℕ} → Tries meaning_of v word value won (hands t)
-      → AreHandsOver meaning_of b.key.rules b.key.room won → IsFree won
-      → AreHandsOver meaning_of b.key.rules b.key.room v → IsFree v → IsSeatOf meaning_of b t
+      → AreHandsOver meaning_of b.setup.rules b.setup.capacity won → IsFree won
+      → AreHandsOver meaning_of b.setup.rules b.setup.capacity v → IsFree v → IsSeatOf meaning_of b t
   seat_tried {v} {won} {word} {value} told won_over won_free over free = record {
     same_table = same_table;
-    over = either_way (AreHandsOver meaning_of b.key.rules b.key.room) told.hit told.miss won_over
-        (over_looked meaning_of b.key.rules b.key.room v word value over told.moment);
+    over = either_way (AreHandsOver meaning_of b.setup.rules b.setup.capacity) told.hit told.miss won_over
+        (over_looked meaning_of b.setup.rules b.setup.capacity v word value over told.moment);
     free = either_way IsFree told.hit told.miss won_free (record { no_wait = free.no_wait; no_walk = free.no_walk });
   }

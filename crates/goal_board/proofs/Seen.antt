@@ -5,7 +5,8 @@ use Rattle.word_table.proofs.Steps.{all_passed_as}
 use Rattle.atomic_table.proofs.Lists.{set_here}
 use Rattle.board_rule.specs.Meaning.{Meaning}
 use Rattle.board_rule.specs.Words.{full_word, cell_word}
-use Rattle.board_rule.specs.Looks.{Looked, LastFound, SawOther, SawOthers, ShowsFinished, seen_closed, child_of, ShowsEntry}
+use Rattle.board_rule.specs.Looks.{Looked, LastFound, SawOther, SawOthers}
+use Rattle.board_rule.specs.Looks.{ShowsFinished, seen_closed, child_of, ShowsEntry}
 use Rattle.board_rule.specs.Looks.{seen_there, asked_by, finished}
 use Rattle.board_rule.specs.Seats.{looked}
 use Rattle.board_rule.specs.Plays.{Moment}
@@ -36,40 +37,41 @@ pub looked_earlier : (more looks : List (ℕ × ℕ)) (word found : ℕ) → Loo
 looked_earlier [] looks word found at = at
 looked_earlier (l ∷ more) looks word found at = inr (looked_earlier more looks word found at)
 
-pub finished_earlier : (meaning : Meaning) (room : ℕ) (more looks : List (ℕ × ℕ)) (goal : ℕ)
-    → ShowsFinished meaning room looks goal → ShowsFinished meaning room (more ++ looks) goal
-finished_earlier meaning room more looks _ (seen_closed goal p near some_goal at closed) =
+pub finished_earlier : (meaning : Meaning) (capacity : ℕ) (more looks : List (ℕ × ℕ)) (goal : ℕ)
+    → ShowsFinished meaning capacity looks goal → ShowsFinished meaning capacity (more ++ looks) goal
+finished_earlier meaning capacity more looks _ (seen_closed goal p near some_goal at closed) =
     seen_closed goal p near some_goal (looked_earlier more looks _ goal at)
     (closed.0, looked_earlier more looks _ closed.0 closed.1, closed.2)
-finished_earlier meaning room more looks _ (child_of goal child shows is) =
-    child_of goal child (finished_earlier meaning room more looks goal shows) is
+finished_earlier meaning capacity more looks _ (child_of goal child shows is) =
+    child_of goal child (finished_earlier meaning capacity more looks goal shows) is
 
-pub entry_earlier : (meaning : Meaning) (room : ℕ) (more looks : List (ℕ × ℕ)) (word : ℕ)
-    → ShowsEntry meaning room looks word → ShowsEntry meaning room (more ++ looks) word
-entry_earlier meaning room more looks _ (seen_there word p near some_word at) =
+pub entry_earlier : (meaning : Meaning) (capacity : ℕ) (more looks : List (ℕ × ℕ)) (word : ℕ)
+    → ShowsEntry meaning capacity looks word → ShowsEntry meaning capacity (more ++ looks) word
+entry_earlier meaning capacity more looks _ (seen_there word p near some_word at) =
     seen_there word p near some_word (looked_earlier more looks _ word at)
-entry_earlier meaning room more looks _ (asked_by goal word shows is) =
-    asked_by goal word (finished_earlier meaning room more looks goal shows) is
-entry_earlier meaning room more looks _ (finished goal shows) =
-    finished goal (finished_earlier meaning room more looks goal shows)
+entry_earlier meaning capacity more looks _ (asked_by goal word shows is) =
+    asked_by goal word (finished_earlier meaning capacity more looks goal shows) is
+entry_earlier meaning capacity more looks _ (finished goal shows) =
+    finished goal (finished_earlier meaning capacity more looks goal shows)
 
 -- other words that the later looks found
 pub saw_later : (more looks : List (ℕ × ℕ)) (word place : ℕ) → SawOther more word place
     → SawOther (more ++ looks) word place
 saw_later more looks word place t = (t.0, looked_later more looks _ t.0 t.1, t.2, t.3)
 
-pub saw_all_later : (room : ℕ) (more looks : List (ℕ × ℕ)) (word steps : ℕ) → SawOthers room more word steps
-    → SawOthers room (more ++ looks) word steps
-saw_all_later room more looks word steps =
-    all_passed_as room (home_of word room) steps (SawOther more word) (SawOther (more ++ looks) word)
+pub saw_all_later : (capacity : ℕ) (more looks : List (ℕ × ℕ)) (word steps : ℕ) → SawOthers capacity more word steps
+    → SawOthers capacity (more ++ looks) word steps
+saw_all_later capacity more looks word steps =
+    all_passed_as capacity (home_of word capacity) steps (SawOther more word) (SawOther (more ++ looks) word)
     (λ p _ t. saw_later more looks word p t)
 
-module _ {R : Type 0} (meaning_of : R → Meaning) (rules : R) (room : ℕ) where
+module _ {R : Type 0} (meaning_of : R → Meaning) (rules : R) (capacity : ℕ) where
   -- a look found what a seat that is alone keeps
-  pub agrees_at : (v : Hands R) (word value : ℕ) → AreHandsOver meaning_of rules room v → Moment meaning_of v word value
+  pub agrees_at : (v : Hands R) (word value : ℕ) → AreHandsOver meaning_of rules capacity v
+      → Moment meaning_of v word value
       → AgreesAlone v ((word, value) ∷ [])
   agrees_at v word value over m =
-      let t = sound_at meaning_of rules room v word value over m in
+      let t = sound_at meaning_of rules capacity v word value over m in
       λ kept is at found looks. ⊎_elim
       (λ (e : (word ≡ at) × (value ≡ found)). ap (λ ws. get_or ws at 0)
       ((t.0.sound.alone t.0.id v t.0.mine).every_word kept is) ∙ ap (λ k. get_or t.0.words k 0) (sym e.0) ∙ sym t.1
@@ -77,15 +79,15 @@ module _ {R : Type 0} (meaning_of : R → Meaning) (rules : R) (room : ℕ) wher
       (λ (no_look : ⊥). absurd no_look) looks
 
   -- the board is sound after a look
-  pub sound_looked : (v : Hands R) (word value : ℕ) → AreHandsOver meaning_of rules room v
-      → Moment meaning_of v word value → 0 < v.parts → SoundWith meaning_of rules room (looked v word value)
+  pub sound_looked : (v : Hands R) (word value : ℕ) → AreHandsOver meaning_of rules capacity v
+      → Moment meaning_of v word value → 0 < v.parts → SoundWith meaning_of rules capacity (looked v word value)
   sound_looked v word value over m some_part =
-      let t = sound_at meaning_of rules room v word value over m in
-      subst (λ x. SoundWith meaning_of rules room (looked v word x)) (sym t.1) (record {
+      let t = sound_at meaning_of rules capacity v word value over m in
+      subst (λ x. SoundWith meaning_of rules capacity (looked v word x)) (sym t.1) (record {
         words = t.0.words;
         views = set t.0.views t.0.id (looked v word (get_or t.0.words word 0));
         id = t.0.id;
-        sound = look_keeps meaning_of rules room t.0.words t.0.views t.0.id v word t.0.sound t.0.mine some_part;
+        sound = look_keeps meaning_of rules capacity t.0.words t.0.views t.0.id v word t.0.sound t.0.mine some_part;
         mine = set_here t.0.views t.0.id (looked v word (get_or t.0.words word 0))
             (some_below t.0.views t.0.id v t.0.mine);
       })
@@ -128,11 +130,11 @@ module _ {R : Type 0} where
   }
 
 -- a step's look, of a sound board
-pub saw_at : {R : Type 0} → (meaning_of : R → Meaning) (rules : R) (room : ℕ) (v : Hands R) (word value : ℕ)
-    → AreHandsOver meaning_of rules room v → Moment meaning_of v word value → SawAt v (word, value)
-saw_at meaning_of rules room v word value over m =
-    let t = sound_at meaning_of rules room v word value over m in record {
-      alone = agrees_at meaning_of rules room v word value over m;
+pub saw_at : {R : Type 0} → (meaning_of : R → Meaning) (rules : R) (capacity : ℕ) (v : Hands R) (word value : ℕ)
+    → AreHandsOver meaning_of rules capacity v → Moment meaning_of v word value → SawAt v (word, value)
+saw_at meaning_of rules capacity v word value over m =
+    let t = sound_at meaning_of rules capacity v word value over m in record {
+      alone = agrees_at meaning_of rules capacity v word value over m;
       stays = λ place found saw is_word at. t.1 ∙ ap (λ k. get_or t.0.words k 0) at
           ∙ (t.0.sound.by_kinds.hands t.0.id v t.0.mine).stays.cells place found saw is_word;
     }

@@ -13,14 +13,14 @@ use Rattle.goal_board.proofs.Putting.{Begun, IsPutting, seen_wait, head_bound, h
 use Rattle.goal_board.proofs.Seen.{looked_later, last_looked}
 use Rattle.goal_board.proofs.Registering.{kept_begun, kept_linked}
 
-module _ {R : Type 0} (meaning_of : R → Meaning) (rules : R) (room : ℕ) where
+module _ {R : Type 0} (meaning_of : R → Meaning) (rules : R) (capacity : ℕ) where
   -- the bit was set, and the child's head was seen
-  pub putting_begins : (v w u : Hands R) (place waits child found head : ℕ) → room ≤ 2 ^ 20 → place < room
-      → child < room → waits < 8 → waits_at place v.rights ≡ waits
-      → AreHandsOver meaning_of rules room v → Moment meaning_of v (run_word place) found
-      → AreHandsOver meaning_of rules room w → Moment meaning_of w (head_word child) head
+  pub putting_begins : (v w u : Hands R) (place waits child found head : ℕ) → capacity ≤ 2 ^ 20 → place < capacity
+      → child < capacity → waits < 8 → waits_at place v.rights ≡ waits
+      → AreHandsOver meaning_of rules capacity v → Moment meaning_of v (run_word place) found
+      → AreHandsOver meaning_of rules capacity w → Moment meaning_of w (head_word child) head
       → w ≡ wait_begun v place found → u ≡ head_seen w (the_wait w) child head
-      → IsPutting room v (8 * place + waits) child head u
+      → IsPutting capacity v (8 * place + waits) child head u
   putting_begins v w u place waits child found head small near child_near few its over moment over_w moment_w begun
       seen =
       let first : Hands R = wait_begun v place found in
@@ -31,7 +31,7 @@ module _ {R : Type 0} (meaning_of : R → Meaning) (rules : R) (room : ℕ) wher
         more = (head_word child, head) ∷ ((run_word place, found) ∷ []);
         quiet = λ value at. ⊎_elim (λ t. omega (arith, t.0)) (⊎_elim (λ t. omega (arith, t.0)) (λ t. t)) at;
         saw = inl (refl, refl);
-        bound = head_bound meaning_of rules room w child head small child_near over_w moment_w;
+        bound = head_bound meaning_of rules capacity w child head small child_near over_w moment_w;
         rising = λ _. omega arith;
         few = omega arith;
         hands_are = is
@@ -44,26 +44,26 @@ module _ {R : Type 0} (meaning_of : R → Meaning) (rules : R) (room : ℕ) wher
               pending = Some (seen_wait (8 * place + waits) child head);
             }) alone;
         kept = subst (Begun (8 * place + waits) v.alone) alone
-            (kept_begun meaning_of rules room v place waits found over moment near few its);
+            (kept_begun meaning_of rules capacity v place waits found over moment near few its);
       }
 
   -- the head that is found once the next word was stored comes later than the one that it was stored for
-  pub found_later : (v w x : Hands R) (waiter child head found : ℕ) → AreHandsOver meaning_of rules room x
-      → Moment meaning_of x (head_word child) found → IsPutting room v waiter child head w
+  pub found_later : (v w x : Hands R) (waiter child head found : ℕ) → AreHandsOver meaning_of rules capacity x
+      → Moment meaning_of x (head_word child) found → IsPutting capacity v waiter child head w
       → x ≡ next_stored w (the_wait w) head → IsLater head found
   found_later v w x waiter child head found over moment old stored =
       let linked = stored ∙ ap (λ (h : Hands R). next_stored h (the_wait h) head) old.hands_are in
-      head_later meaning_of rules room x child head found over moment
+      head_later meaning_of rules capacity x child head found over moment
       (subst (λ (h : Hands R). Looked h.looks (head_word child) head) (sym linked)
       (looked_later old.more v.looks (head_word child) head (last_looked old.more (head_word child) head old.saw)))
 
   -- another head was found than the one that the next word was stored for
-  pub putting_goes_on : (v w x u : Hands R) (waiter child head found : ℕ) → room ≤ 2 ^ 20 → child < room
+  pub putting_goes_on : (v w x u : Hands R) (waiter child head found : ℕ) → capacity ≤ 2 ^ 20 → child < capacity
       → head < 2 ^ 63 → found ≢ head
-      → AreHandsOver meaning_of rules room x → Moment meaning_of x (head_word child) found
-      → IsPutting room v waiter child head w
+      → AreHandsOver meaning_of rules capacity x → Moment meaning_of x (head_word child) found
+      → IsPutting capacity v waiter child head w
       → x ≡ next_stored w (the_wait w) head → u ≡ head_seen x (the_wait x) child found
-      → IsPutting room v waiter child found u
+      → IsPutting capacity v waiter child found u
   putting_goes_on v w x u waiter child head found small near was_open other over moment old stored missed =
       let later = found_later v w x waiter child head found over moment old stored in
       let rose = old.rising was_open in
@@ -75,7 +75,7 @@ module _ {R : Type 0} (meaning_of : R → Meaning) (rules : R) (room : ℕ) wher
         more = (head_word child, found) ∷ old.more;
         quiet = λ value at. ⊎_elim (λ t. omega (arith, t.0)) (λ t. old.quiet value t) at;
         saw = inl (refl, refl);
-        bound = head_bound meaning_of rules room x child found small near over moment;
+        bound = head_bound meaning_of rules capacity x child found small near over moment;
         rising = λ is_open. ⊎_elim (λ closed. absurd (omega arith))
             (⊎_elim (λ same. absurd (other same)) (λ t. let more = t.1 in omega arith)) later;
         few = omega arith;

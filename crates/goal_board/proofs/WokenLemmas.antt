@@ -36,20 +36,20 @@ runs_more o p place x old =
     (stays_changed ChangesRuns (run_word place) x p (λ kept _. run_changed kept place x))
 
 -- what a walk has done so far
-pub record HasWoken {R : Type 0} (room : ℕ) (v : Hands R) (number : ℕ) (one : Option ℕ) (w : Hands R) : Type 0 where
+pub record HasWoken {R : Type 0} (capacity : ℕ) (v : Hands R) (number : ℕ) (one : Option ℕ) (w : Hands R) : Type 0 where
   pub more : List (ℕ × ℕ)
   pub words : Option (List ℕ)
   pub gained : List ℕ
   pub hands_are : w ≡ record v { alone = words; looks = more ++ v.looks; woken = gained ++ v.woken; walk = w.walk }
   pub lone : LoneWakes v.alone words
   pub quiet : (value : ℕ) → Looked more full_word value → ⊥
-  pub near : Each (λ place. place < room) gained
+  pub near : Each (λ place. place < capacity) gained
   pub counted : number ≡ length gained
   pub none : one ≡ None → gained ≡ []
   pub some_one : (place : ℕ) → one ≡ Some place → Among gained place
 
-pub woken_begins : {R : Type 0} (room : ℕ) (v : Hands R) → HasWoken room v 0 None v
-woken_begins room v = record {
+pub woken_begins : {R : Type 0} (capacity : ℕ) (v : Hands R) → HasWoken capacity v 0 None v
+woken_begins capacity v = record {
   more = [];
   words = v.alone;
   gained = [];
@@ -63,12 +63,12 @@ woken_begins room v = record {
 }
 
 -- one turn of the walk: the next word was read, and the bit was cleared
-pub woken_more : {R : Type 0} (room : ℕ) (v w : Hands R) (number : ℕ) (one : Option ℕ) (q name found : ℕ)
-    → HasWoken room v number one w → q / 8 < room
-    → (cleared found (q % 8) ≡ 0 → HasWoken room v (number + 1) (Some (q / 8))
+pub woken_more : {R : Type 0} (capacity : ℕ) (v w : Hands R) (number : ℕ) (one : Option ℕ) (q name found : ℕ)
+    → HasWoken capacity v number one w → q / 8 < capacity
+    → (cleared found (q % 8) ≡ 0 → HasWoken capacity v (number + 1) (Some (q / 8))
     (bit_cleared (next_read w q name) q found))
-    × (cleared found (q % 8) ≢ 0 → HasWoken room v number one (bit_cleared (next_read w q name) q found))
-woken_more room v w number one q name found old near =
+    × (cleared found (q % 8) ≢ 0 → HasWoken capacity v number one (bit_cleared (next_read w q name) q found))
+woken_more capacity v w number one q name found old near =
     let looks : List (ℕ × ℕ) = (run_word (q / 8), found) ∷ ((next_word q, name) ∷ old.more) in
     let words : Option (List ℕ) = changed (run_word (q / 8)) (cleared found (q % 8)) old.words in
     let runs = runs_more v.alone old.words (q / 8) (cleared found (q % 8)) old.lone in
@@ -119,9 +119,10 @@ woken_more room v w number one q name found old near =
     )
 
 -- the walk is at its end
-pub wakes_all : {R : Type 0} (room : ℕ) (v w : Hands R) (woken : Woken) → HasWoken room v woken.count woken.one w
-    → w.walk.waiters ≡ [] → Wakes room v woken w
-wakes_all room v w woken old at_end = record {
+pub wakes_all : {R : Type 0} (capacity : ℕ) (v w : Hands R) (woken : Woken)
+    → HasWoken capacity v woken.count woken.one w
+    → w.walk.waiters ≡ [] → Wakes capacity v woken w
+wakes_all capacity v w woken old at_end = record {
   more = old.more;
   words = old.words;
   gained = old.gained;
@@ -137,6 +138,7 @@ wakes_all room v w woken old at_end = record {
 }
 
 -- it puts no wait in
-pub woken_pending : {R : Type 0} {room : ℕ} {v w : Hands R} {number : ℕ} {one : Option ℕ} → HasWoken room v number one w
+pub woken_pending : {R : Type 0} {capacity : ℕ} {v w : Hands R} {number : ℕ} {one : Option ℕ}
+    → HasWoken capacity v number one w
     → w.pending ≡ v.pending
 woken_pending woken = ap (λ (h : Hands _). h.pending) woken.hands_are

@@ -9,7 +9,7 @@ use Rattle.board_rule.specs.declared.hands.Hands.{Hands}
 
 -- a seat that is alone keeps all words of the board
 abbrev pub KeepsAll : {R : Type 0} → ℕ → Hands R → Type 0
-KeepsAll room v = (kept : List ℕ) → v.alone ≡ Some kept → length kept ≡ 14 * room + 1
+KeepsAll capacity v = (kept : List ℕ) → v.alone ≡ Some kept → length kept ≡ 14 * capacity + 1
 
 -- a seat that was alone is so still, and the words that it keeps have changed so; one that was not is not now
 abbrev pub StaysAlone : (List ℕ → List ℕ → Type 0) → Option (List ℕ) → Option (List ℕ) → Type 0
@@ -34,8 +34,8 @@ abbrev pub HasWait : ℕ → Type 0
 HasWait run = (number : ℕ) × (number < 8) × (bit_at run number ≡ 1)
 
 -- the goal that was looked at in the cell is ready in these words
-pub record IsReadyIn (meaning : Meaning) (room : ℕ) (words : List ℕ) (place : ℕ) : Type 0 where
-  pub near : place < room
+pub record IsReadyIn (meaning : Meaning) (capacity : ℕ) (words : List ℕ) (place : ℕ) : Type 0 where
+  pub near : place < capacity
   pub some_goal : slice_index words (cell_word place) ≢ 0
   pub is_goal : IsTrue (meaning.goal (slice_index words (cell_word place)))
   pub ready : slice_index words (run_word place) ≡ 0
@@ -44,8 +44,9 @@ pub record IsReadyIn (meaning : Meaning) (room : ℕ) (words : List ℕ) (place 
 
 -- answer, where the goal is open: a seat that is alone and holds no right keeps some ready goal
 abbrev pub LoneFindsReady : {R : Type 0} → Meaning → ℕ → Hands R → ℕ → Type 0
-LoneFindsReady meaning room v at = (kept : List ℕ) → v.alone ≡ Some kept → v.rights ≡ [] → (goal : ℕ) → goal ≢ 0
-    → Looked v.looks (cell_word at) goal → IsTrue (meaning.goal goal) → (place : ℕ) × IsReadyIn meaning room kept place
+LoneFindsReady meaning capacity v at = (kept : List ℕ) → v.alone ≡ Some kept → v.rights ≡ [] → (goal : ℕ) → goal ≢ 0
+    → Looked v.looks (cell_word at) goal → IsTrue (meaning.goal goal) → (place : ℕ)
+    × IsReadyIn meaning capacity kept place
 
 -- wait_for, where the goal waits: the bit of its right's next wait was set
 pub record LoneRegisters (place waits : ℕ) (before after : Option (List ℕ)) : Type 0 where

@@ -30,19 +30,19 @@ pub record IsSeen {R : Type 0} (v : Hands R) (looks : List (ℕ × ℕ)) : Type 
 
 -- every cell was found taken by another word
 abbrev pub SawAllOthers : ℕ → List (ℕ × ℕ) → ℕ → Type 0
-SawAllOthers room looks word = (place : ℕ) → place < room → SawOther looks word place
+SawAllOthers capacity looks word = (place : ℕ) → place < capacity → SawOther looks word place
 
-module _ {R : Type 0} (room : ℕ) (v : Hands R) (word : ℕ) where
+module _ {R : Type 0} (capacity : ℕ) (v : Hands R) (word : ℕ) where
   -- the word was put into an empty cell
   pub record PutsFresh (at : ℕ) (w : Hands R) : Type 0 where
-    pub near : at < room
+    pub near : at < capacity
     pub more : List (ℕ × ℕ)
     pub looks : IsSeen v ((cell_word at, 0) ∷ more)
     pub hands_are : w ≡ placed (seen more v) at word
 
   -- a look found the word in the cell
   pub record FindsAt (at : ℕ) (w : Hands R) : Type 0 where
-    pub near : at < room
+    pub near : at < capacity
     pub more : List (ℕ × ℕ)
     pub looks : IsSeen v more
     pub stands : Looked more (cell_word at) word
@@ -52,7 +52,7 @@ module _ {R : Type 0} (room : ℕ) (v : Hands R) (word : ℕ) where
   pub record FindsFull (w : Hands R) : Type 0 where
     pub more : List (ℕ × ℕ)
     pub looks : IsSeen v more
-    pub others : SawAllOthers room more word
+    pub others : SawAllOthers capacity more word
     pub hands_are : w ≡ filled (seen more v)
 
   abbrev pub Inserts : Inserted → Hands R → Type 0
@@ -63,15 +63,15 @@ module _ {R : Type 0} (room : ℕ) (v : Hands R) (word : ℕ) where
   -- the looks from the word's home on found other words, and then an empty cell
   pub record EndsAtGap (looks : List (ℕ × ℕ)) : Type 0 where
     pub gap : ℕ
-    pub near : gap < room
+    pub near : gap < capacity
     pub empty : Looked looks (cell_word gap) 0
-    pub passed : SawOthers room looks word (steps_to room (home_of word room) gap)
+    pub passed : SawOthers capacity looks word (steps_to capacity (home_of word capacity) gap)
 
   -- the word was in no cell at the look at an empty one, or all cells held other words
   pub record FindsNone (w : Hands R) : Type 0 where
     pub more : List (ℕ × ℕ)
     pub looks : IsSeen v more
-    pub nowhere : EndsAtGap more ⊎ SawAllOthers room more word
+    pub nowhere : EndsAtGap more ⊎ SawAllOthers capacity more word
     pub hands_are : w ≡ seen more v
 
   abbrev pub Finds : Option ℕ → Hands R → Type 0
@@ -95,10 +95,10 @@ pub record ReadsCell {R : Type 0} (v : Hands R) (at : ℕ) (found : Option ℕ) 
 
 -- where the looks show the full word set, some entry isn't shown by them
 abbrev pub LeavesOut : Meaning → ℕ → List (ℕ × ℕ) → Type 0
-LeavesOut meaning room looks = ShowsFull looks → (word : ℕ) × meaning.entry word
-    × (ShowsEntry meaning room looks word → ⊥)
+LeavesOut meaning capacity looks = ShowsFull looks → (word : ℕ) × meaning.entry word
+    × (ShowsEntry meaning capacity looks word → ⊥)
 
-module _ {R : Type 0} (meaning : Meaning) (room : ℕ) (v : Hands R) (at : ℕ) where
+module _ {R : Type 0} (meaning : Meaning) (capacity : ℕ) (v : Hands R) (at : ℕ) where
   -- the head was found closed, and the answer words then
   pub record ReadsAnswer (answer : Answer) (w : Hands R) : Type 0 where
     pub head : ℕ
@@ -108,7 +108,7 @@ module _ {R : Type 0} (meaning : Meaning) (room : ℕ) (v : Hands R) (at : ℕ) 
         v
     -- it is an answer of the goal that a look found there
     pub exact : (goal : ℕ) → goal ≢ 0 → Looked v.looks (cell_word at) goal → meaning.answer goal answer.cost answer.node
-    pub left_out : LeavesOut meaning room w.looks
+    pub left_out : LeavesOut meaning capacity w.looks
 
   -- the head was found open
   pub record FindsOpen (w : Hands R) : Type 0 where
@@ -118,15 +118,15 @@ module _ {R : Type 0} (meaning : Meaning) (room : ℕ) (v : Hands R) (at : ℕ) 
     pub hands_are : w ≡ looked v (head_word at) head
     -- the looks don't show the goal finished
     pub unfinished : (goal : ℕ) → goal ≢ 0 → Looked v.looks (cell_word at) goal
-        → ShowsFinished meaning room v.looks goal → ⊥
-    pub lone : LoneFindsReady meaning room v at
+        → ShowsFinished meaning capacity v.looks goal → ⊥
+    pub lone : LoneFindsReady meaning capacity v at
 
   abbrev pub Reads : Option Answer → Hands R → Type 0
   Reads (Some answer) w = ReadsAnswer answer w
   Reads None w = FindsOpen w
 
 -- one look at the full word
-pub record ReadsFull {R : Type 0} (meaning : Meaning) (room : ℕ) (v : Hands R) (full : Bool) (w : Hands R) : Type 0
+pub record ReadsFull {R : Type 0} (meaning : Meaning) (capacity : ℕ) (v : Hands R) (full : Bool) (w : Hands R) : Type 0
   where
     pub value : ℕ
     pub hands_are : w ≡ looked v full_word value
@@ -134,4 +134,4 @@ pub record ReadsFull {R : Type 0} (meaning : Meaning) (room : ℕ) (v : Hands R)
     pub unset : full ≡ false → value ≡ 0
     pub stays : ShowsFull v.looks → IsTrue full
     pub alone : AgreesAlone v ((full_word, value) ∷ [])
-    pub left_out : LeavesOut meaning room w.looks
+    pub left_out : LeavesOut meaning capacity w.looks

@@ -35,7 +35,7 @@ who_below m (suc n) = with_closed (m.head n) (who_below m n) (m.who n - 1)
 
 -- each finished goal has the number of one of 64 workers, plus 1
 abbrev pub HasWorkers : Mem → ℕ → Type 0
-HasWorkers m room = (p : ℕ) → p < room → 2 ^ 63 ≤ m.head p → (1 ≤ m.who p) × (m.who p ≤ 64)
+HasWorkers m capacity = (p : ℕ) → p < capacity → 2 ^ 63 ≤ m.head p → (1 ≤ m.who p) × (m.who p ≤ 64)
 
 -- a goal that is ready stands at the place
 pub record IsReadyAt (meaning : Meaning) (m : Mem) (p : ℕ) : Type 0 where
@@ -50,36 +50,38 @@ ReadsReady meaning m p (Some goal) = IsReadyAt meaning m p × (m.cell p ≡ goal
 
 -- the goal in the least place that is ready, or none where there is none
 abbrev pub IsFirstReady : Meaning → Mem → ℕ → Option ℕ → Type 0
-IsFirstReady meaning m room None = (p : ℕ) → p < room → IsReadyAt meaning m p → ⊥
-IsFirstReady meaning m room (Some goal) = (p : ℕ) × (p < room) × (m.cell p ≡ goal) × IsReadyAt meaning m p
+IsFirstReady meaning m capacity None = (p : ℕ) → p < capacity → IsReadyAt meaning m p → ⊥
+IsFirstReady meaning m capacity (Some goal) = (p : ℕ) × (p < capacity) × (m.cell p ≡ goal) × IsReadyAt meaning m p
     × ((q : ℕ) → q < p → IsReadyAt meaning m q → ⊥)
 
 -- what was read of the words
-pub record ReadsBoard (meaning : Meaning) (room : ℕ) (m : Mem) (closed : Closed) : Type 0 where
-  pub cells : closed.cells ≡ cells_below m room
-  pub answers : closed.answers ≡ answers_below m room
-  pub who : closed.who ≡ who_below m room
+pub record ReadsBoard (meaning : Meaning) (capacity : ℕ) (m : Mem) (closed : Closed) : Type 0 where
+  pub cells : closed.cells ≡ cells_below m capacity
+  pub answers : closed.answers ≡ answers_below m capacity
+  pub who : closed.who ≡ who_below m capacity
   pub full : closed.full ≡ not (m.full == 0)
-  pub ready : IsFirstReady meaning m room closed.ready
+  pub ready : IsFirstReady meaning m capacity closed.ready
 
 -- The last board was sound, the seat had these hands, and this was read of it
-pub record ClosesWith {R : Type 0} (meaning_of : R → Meaning) (rules : R) (room : ℕ) (v : Hands R) (closed : Closed) :
+pub record ClosesWith {R : Type 0} (meaning_of : R → Meaning) (rules : R) (capacity : ℕ) (v : Hands R)
+    (closed : Closed) :
     Type 0 where
   pub words : List ℕ
   pub views : List (Hands R)
   pub id : ℕ
-  pub sound : IsSound (meaning_of rules) rules room words views
+  pub sound : IsSound (meaning_of rules) rules capacity words views
   pub mine : get_elem? views id ≡ some v
-  pub reads : ReadsBoard (meaning_of rules) room (mem words) closed
+  pub reads : ReadsBoard (meaning_of rules) capacity (mem words) closed
   -- no wake-up is lost: where no goal is ready, every goal in the cells is finished
-  pub none_ready : closed.ready ≡ None → (p : ℕ) → p < room → HoldsGoal (meaning_of rules) room (mem words).cell p
+  pub none_ready : closed.ready ≡ None → (p : ℕ) → p < capacity
+      → HoldsGoal (meaning_of rules) capacity (mem words).cell p
       → 2 ^ 63 ≤ (mem words).head p
   -- what is finished stands in the seat's done, with its worker and its answer
-  pub finished_by : (p : ℕ) → p < room → 2 ^ 63 ≤ (mem words).head p
+  pub finished_by : (p : ℕ) → p < capacity → 2 ^ 63 ≤ (mem words).head p
       → (e : Ended) × Among v.done e × (e.place ≡ p)
-      × IsRecorded room (mem words).head (mem words).cost (mem words).node (mem words).who e
+      × IsRecorded capacity (mem words).head (mem words).cost (mem words).node (mem words).who e
   -- a goal that is registered with a child, which is then not finished, is not ready
-  pub registered : (c q : ℕ) → c < room → Among (sound.by_kinds.waits.lists c) q → (mem words).run (q / 8) ≢ 0
+  pub registered : (c q : ℕ) → c < capacity → Among (sound.by_kinds.waits.lists c) q → (mem words).run (q / 8) ≢ 0
   -- a look that found the full word set, and what a full board lacks
   pub filled : ShowsFull v.looks → closed.full ≡ true
-  pub left_out : closed.full ≡ true → IsFull (meaning_of rules) room (mem words).cell
+  pub left_out : closed.full ≡ true → IsFull (meaning_of rules) capacity (mem words).cell

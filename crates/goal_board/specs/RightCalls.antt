@@ -23,8 +23,8 @@ abbrev pub waiting_right : ℕ → ℕ → Claimed
 waiting_right place waits = record { place = place; waits = waits; cost = None; node = None; who = None }
 
 -- the seat's right to a goal
-pub record IsRightOf {R : Type 0} (meaning : Meaning) (room : ℕ) (v : Hands R) (right : Right) : Type 0 where
-  pub near : right.place < room
+pub record IsRightOf {R : Type 0} (meaning : Meaning) (capacity : ℕ) (v : Hands R) (right : Right) : Type 0 where
+  pub near : right.place < capacity
   pub held : Among v.rights (waiting_right right.place right.waits)
   pub few : right.waits ≤ 8
   pub stands : Looked v.looks (cell_word right.place) right.goal
@@ -56,24 +56,25 @@ ShowsBusy meaning looks at = ShowsNoGoal meaning looks at ⊎ ShowsTaken meaning
 
 -- each right of the seat is one still
 abbrev pub KeepsRights : {R : Type 0} → Meaning → ℕ → Hands R → Hands R → Type 0
-KeepsRights meaning room v w = (right : Right) → IsRightOf meaning room v right → IsRightOf meaning room w right
+KeepsRights meaning capacity v w = (right : Right) → IsRightOf meaning capacity v right
+    → IsRightOf meaning capacity w right
 
 -- each right of the seat is one still, but for that to the goal at the place
 abbrev pub KeepsOthers : {R : Type 0} → Meaning → ℕ → ℕ → Hands R → Hands R → Type 0
-KeepsOthers meaning room place v w = (right : Right) → right.place ≢ place → IsRightOf meaning room v right
-    → IsRightOf meaning room w right
+KeepsOthers meaning capacity place v w = (right : Right) → right.place ≢ place → IsRightOf meaning capacity v right
+    → IsRightOf meaning capacity w right
 
-module _ {R : Type 0} (meaning : Meaning) (room : ℕ) (v : Hands R) (at : ℕ) where
+module _ {R : Type 0} (meaning : Meaning) (capacity : ℕ) (v : Hands R) (at : ℕ) where
   -- the goal was found ready, by a look at its run word and then by the step that claimed it
   pub record ClaimsGoal (right : Right) (w : Hands R) : Type 0 where
     pub there : right.place ≡ at
     pub no_waits : right.waits ≡ 0
-    pub its : IsRightOf meaning room w right
+    pub its : IsRightOf meaning capacity w right
     pub looks : IsSeen v ((run_word at, 0) ∷ ((run_word at, 0) ∷ ((cell_word at, right.goal) ∷ [])))
     pub hands_are : w ≡ claimed (looked (looked v (cell_word at) right.goal) (run_word at) 0) at
     -- the seat had no right to it before
     pub new : Each (λ (r : Claimed). r.place ≢ at) v.rights
-    pub lone : KeepsAll room v
+    pub lone : KeepsAll capacity v
 
   -- it was found busy
   pub record FindsBusy (w : Hands R) : Type 0 where
@@ -110,18 +111,18 @@ pub record SeesChild (meaning : Meaning) (looks : List (ℕ × ℕ)) (goal at : 
 
 -- the looks of a wait: none at the full word, and the last at the child's head found that; each try that failed shows
 -- more waiters than the one before, so the looks are few
-pub record LooksToWait (room at head : ℕ) (looks : List (ℕ × ℕ)) : Type 0 where
+pub record LooksToWait (capacity at head : ℕ) (looks : List (ℕ × ℕ)) : Type 0 where
   pub quiet : (value : ℕ) → Looked looks full_word value → ⊥
   pub last : LastFound looks (head_word at) head
-  pub few : length looks ≤ 8 * room + 4
+  pub few : length looks ≤ 8 * capacity + 4
 
-module _ {R : Type 0} (room : ℕ) (v : Hands R) (place at : ℕ) where
+module _ {R : Type 0} (capacity : ℕ) (v : Hands R) (place at : ℕ) where
   -- the goal waits for the child, whose head was found open last: its right has one wait more
   pub record Registers (w : Hands R) : Type 0 where
     pub words : Option (List ℕ)
     pub more : List (ℕ × ℕ)
     pub head : ℕ
-    pub looks : LooksToWait room at head more
+    pub looks : LooksToWait capacity at head more
     pub was_open : head < 2 ^ 63
     pub hands_are : w ≡ record v { alone = words; looks = more ++ v.looks; rights = with_wait place v.rights }
     pub lone : LoneRegisters place (waits_at place v.rights) v.alone words
@@ -131,7 +132,7 @@ module _ {R : Type 0} (room : ℕ) (v : Hands R) (place at : ℕ) where
     pub words : Option (List ℕ)
     pub more : List (ℕ × ℕ)
     pub head : ℕ
-    pub looks : LooksToWait room at head more
+    pub looks : LooksToWait capacity at head more
     pub closed : 2 ^ 63 ≤ head
     pub hands_are : w ≡ record v { alone = words; looks = more ++ v.looks }
     pub lone : LoneFindsFinished place v.alone words
@@ -163,7 +164,7 @@ finishes v place worker cost node waiters = record v {
 
 -- the seat has walked its list to the end: each waiter's bit was cleared, and those goals that this made ready are
 -- counted
-pub record Wakes {R : Type 0} (room : ℕ) (v : Hands R) (woken : Woken) (w : Hands R) : Type 0 where
+pub record Wakes {R : Type 0} (capacity : ℕ) (v : Hands R) (woken : Woken) (w : Hands R) : Type 0 where
   pub more : List (ℕ × ℕ)
   pub words : Option (List ℕ)
   pub gained : List ℕ
@@ -172,14 +173,14 @@ pub record Wakes {R : Type 0} (room : ℕ) (v : Hands R) (woken : Woken) (w : Ha
   pub at_end : left.waiters ≡ []
   pub lone : LoneWakes v.alone words
   pub quiet : (value : ℕ) → Looked more full_word value → ⊥
-  pub near : Each (λ place. place < room) gained
+  pub near : Each (λ place. place < capacity) gained
   pub counted : woken.count ≡ length gained
   pub none : woken.one ≡ None → gained ≡ []
   pub one : (place : ℕ) → woken.one ≡ Some place → Among gained place
 
 -- the goal was finished with this answer, and its waiters were woken
-pub record FinishesGoal {R : Type 0} (room : ℕ) (v : Hands R) (place worker cost node : ℕ) (woken : Woken)
+pub record FinishesGoal {R : Type 0} (capacity : ℕ) (v : Hands R) (place worker cost node : ℕ) (woken : Woken)
     (w : Hands R) : Type 0 where
   pub waiters : List ℕ
-  pub wakes : Wakes room (finishes v place worker cost node waiters) woken w
+  pub wakes : Wakes capacity (finishes v place worker cost node waiters) woken w
   pub lone : LoneFinishes place v.alone

@@ -19,45 +19,45 @@ HasSeenClosed s at = ShowsClosed (hands s).looks at
 module _ {R : Type 0} (meaning_of : R → Meaning) (b : Board R) (s : Seat R) where
   -- the seat has the right
   abbrev pub HasRightTo : Right → Type 0
-  HasRightTo right = IsRightOf (meaning_of b.key.rules) b.key.room (hands s) right
+  HasRightTo right = IsRightOf (meaning_of b.setup.rules) b.setup.capacity (hands s) right
 
   -- its looks show the entry
   abbrev pub HasSeenEntry : ℕ → Type 0
-  HasSeenEntry word = ShowsEntry (meaning_of b.key.rules) b.key.room (hands s).looks word
+  HasSeenEntry word = ShowsEntry (meaning_of b.setup.rules) b.setup.capacity (hands s).looks word
 
   -- its looks show the goal's promise
   abbrev pub HasSeenPromise : ℕ → Type 0
-  HasSeenPromise goal = ShowsPromise (meaning_of b.key.rules) b.key.room (hands s).looks goal
+  HasSeenPromise goal = ShowsPromise (meaning_of b.setup.rules) b.setup.capacity (hands s).looks goal
 
   -- one of its looks found a child of the goal in the cell
   abbrev pub HasSeenChild : (goal at : ℕ) → Type 0
-  HasSeenChild goal at = SeesChild (meaning_of b.key.rules) (hands s).looks goal at
+  HasSeenChild goal at = SeesChild (meaning_of b.setup.rules) (hands s).looks goal at
 
   -- each of its rights is one still
   abbrev pub SeatKeepsRights : Seat R → Type 0
-  SeatKeepsRights t = KeepsRights (meaning_of b.key.rules) b.key.room (hands s) (hands t)
+  SeatKeepsRights t = KeepsRights (meaning_of b.setup.rules) b.setup.capacity (hands s) (hands t)
 
   -- each of its rights is one still, but for that to the goal at the place
   abbrev pub SeatKeepsOthers : (place : ℕ) → Seat R → Type 0
-  SeatKeepsOthers place t = KeepsOthers (meaning_of b.key.rules) b.key.room place (hands s) (hands t)
+  SeatKeepsOthers place t = KeepsOthers (meaning_of b.setup.rules) b.setup.capacity place (hands s) (hands t)
 
   -- it claimed the goal at the place, or found it busy
   abbrev pub SeatClaims : (at : ℕ) → Option Right → Seat R → Type 0
-  SeatClaims at found t = Claims (meaning_of b.key.rules) b.key.room (hands s) at found (hands t)
+  SeatClaims at found t = Claims (meaning_of b.setup.rules) b.setup.capacity (hands s) at found (hands t)
 
   -- the goal at the place waits for the child, or the child was found finished
   abbrev pub SeatWaitsFor : (place at : ℕ) → Awaited → Seat R → Type 0
-  SeatWaitsFor place at answer t = WaitsFor b.key.room (hands s) place at answer (hands t)
+  SeatWaitsFor place at answer t = WaitsFor b.setup.capacity (hands s) place at answer (hands t)
 
   -- it finished the goal at the place with the answer, and woke the goals that wait for it
   abbrev pub SeatFinishes : (place worker : ℕ) → Answer → Woken → Seat R → Type 0
   SeatFinishes place worker answer woken t =
-      FinishesGoal b.key.room (hands s) place worker answer.cost answer.node woken (hands t)
+      FinishesGoal b.setup.capacity (hands s) place worker answer.cost answer.node woken (hands t)
 
   -- it read the answer at the place, or found the goal open
   abbrev pub SeatReads : (at : ℕ) → Option Answer → Seat R → Type 0
-  SeatReads at found t = Reads (meaning_of b.key.rules) b.key.room (hands s) at found (hands t)
+  SeatReads at found t = Reads (meaning_of b.setup.rules) b.setup.capacity (hands s) at found (hands t)
 
   -- it looked at the full word
   abbrev pub SeatReadsFull : Bool → Seat R → Type 0
-  SeatReadsFull full t = ReadsFull (meaning_of b.key.rules) b.key.room (hands s) full (hands t)
+  SeatReadsFull full t = ReadsFull (meaning_of b.setup.rules) b.setup.capacity (hands s) full (hands t)

@@ -22,12 +22,12 @@ the_wait v = pending_or v.pending
 
 -- hands over these rules and that many cells, whose looks found entries alone, and which keep all words where the seat
 -- is alone
-pub record AreHandsOver {R : Type 0} (meaning_of : R → Meaning) (rules : R) (room : ℕ) (v : Hands R) : Type 0 where
+pub record AreHandsOver {R : Type 0} (meaning_of : R → Meaning) (rules : R) (capacity : ℕ) (v : Hands R) : Type 0 where
   pub its_rules : v.rules ≡ Some rules
-  pub its_room : v.room ≡ room
-  pub entries : (place word : ℕ) → place < room → Looked v.looks (cell_word place) word → word ≢ 0
+  pub its_capacity : v.capacity ≡ capacity
+  pub entries : (place word : ℕ) → place < capacity → Looked v.looks (cell_word place) word → word ≢ 0
       → (meaning_of rules).entry word
-  pub all : KeepsAll room v
+  pub all : KeepsAll capacity v
 
 -- between two calls a seat puts no wait in, and has no list half walked
 pub record IsFree {R : Type 0} (v : Hands R) : Type 0 where
@@ -37,10 +37,10 @@ pub record IsFree {R : Type 0} (v : Hands R) : Type 0 where
 -- the seat is one of this board
 pub record IsSeatOf {R : Type 0} (meaning_of : R → Meaning) (b : Board R) (s : Seat R) : Type 0 where
   pub same_table : s.seat.table_id ≡ b.table.shared.table_id
-  pub over : AreHandsOver meaning_of b.key.rules b.key.room (hands s)
+  pub over : AreHandsOver meaning_of b.setup.rules b.setup.capacity (hands s)
   pub free : IsFree (hands s)
 
 -- the seat is one of this board, in the middle of a call
 pub record IsInCall {R : Type 0} (meaning_of : R → Meaning) (b : Board R) (s : Seat R) : Type 0 where
   pub same_table : s.seat.table_id ≡ b.table.shared.table_id
-  pub over : AreHandsOver meaning_of b.key.rules b.key.room (hands s)
+  pub over : AreHandsOver meaning_of b.setup.rules b.setup.capacity (hands s)

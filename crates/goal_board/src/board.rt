@@ -3,7 +3,7 @@ ghost use Rattle.std.specs.Coded.{Coded-set, coded_ℕ, coded_list, coded×};
 ghost use base.Stored.{coded_unit};
 
 use atomic_table::Table;
-use board_rule::{GoalRules, Hands, Key, Law};
+use board_rule::{GoalRules, Hands, Law, Setup};
 use std::alloc::{AllocError, Global};
 
 /// One caller's token: what it saw and did, which only its own calls change. It has no bytes.
@@ -25,37 +25,38 @@ pub struct Right {
 /// A table of words that changes by single atomic steps, without a lock.
 #[derive(Drop)]
 pub struct Board<R: GoalRules> {
-    pub(crate) table: Table<(), Hands<R>, Key<R>, Law, Global>,
-    pub(crate) key: Key<R>,
-    ghost keyed: { table.shared.key ≡ key } by { Coded-set key-code table.shared.key key },
-    ghost sized: { (table.shared.table_id.words ≡ 14 * key.room + 1) × (table.shared.table_id.slots ≡ 0) × (0 < key.room) × (key.room ≤ 2 ^ 20) },
+    pub(crate) table: Table<(), Hands<R>, Setup<R>, Law, Global>,
+    pub(crate) setup: Setup<R>,
+    ghost keyed: { table.shared.key ≡ setup } by { Coded-set setup-code table.shared.key setup },
+    ghost sized: { (table.shared.table_id.words ≡ 14 * setup.capacity + 1) × (table.shared.table_id.slots ≡ 0)
+        × (0 < setup.capacity) × (setup.capacity ≤ 2 ^ 20) },
 }
 
 impl<R: GoalRules> Board<R> {
     ghost use Rattle.goal_board.specs.Seats.{IsSeatOf, hands};
     ghost use Rattle.board_rule.specs.Seats.{opening_hands};
 
-    /// An empty board of `cap` cells, and the first seat. It takes the board's memory, and no other call but `close`
+    /// An empty board of `capacity` cells, and the first seat. It takes the board's memory. Of the other calls only `close`
     /// takes any, beside the hints that `finish` is lent.
-    pub fn start(alloc: Global, rules: R, cap: u32) -> Result<(Board<R>, Seat<R>), AllocError>
+    pub fn start(alloc: Global, rules: R, capacity: u32) -> Result<(Board<R>, Seat<R>), AllocError>
     where
         R: Drop,
-        requires { (1 ≤ cap) × (cap ≤ 2 ^ 20) }
-        ensures board { IfOk result (λ made. (made.0.key.rules ≡ rules) × (made.0.key.room ≡ cap)) }
+        requires { (1 ≤ capacity) × (capacity ≤ 2 ^ 20) }
+        ensures board { IfOk result (λ made. (made.0.setup.rules ≡ rules) × (made.0.setup.capacity ≡ capacity)) }
         ensures seat { IfOk result (λ made.
-            IsSeatOf R.meaning made.0 made.1 × (hands made.1 ≡ opening_hands rules cap)) }
+            IsSeatOf R.meaning made.0 made.1 × (hands made.1 ≡ opening_hands rules capacity)) }
     {
-        let words = vec![in alloc; 0; 14 * cap as usize + 1]?;
-        let key = Key { rules, room: cap };
-        let (table, seat) = Table::of_words(alloc, words.as_slice(), &key)?;
-        Ok((Board { table, key }, Seat { seat }))
+        let words = vec![in alloc; 0; 14 * capacity as usize + 1]?;
+        let setup = Setup { rules, capacity };
+        let (table, seat) = Table::of_words(alloc, words.as_slice(), &setup)?;
+        Ok((Board { table, setup }, Seat { seat }))
     }
 
     /// The number of cells.
-    pub fn cap(&self) -> u32
-        ensures { result ≡ self.now.key.room }
+    pub fn capacity(&self) -> u32
+        ensures { result ≡ self.now.setup.capacity }
     {
-        self.key.room
+        self.setup.capacity
     }
 }
 

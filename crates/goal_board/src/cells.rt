@@ -12,20 +12,20 @@ impl<R: GoalRules> Board<R> {
     /// Puts an entry into the table. A word that stands in a cell keeps its place.
     pub fn insert(&self, seat: &mut Seat<R>, word: u64) -> Inserted
         requires seat { IsSeatOf R.meaning self.now seat.old }
-        requires enters { (R.meaning self.now.key.rules).entry word }
+        requires enters { (R.meaning self.now.setup.rules).entry word }
         ensures seat { IsSeatOf R.meaning self.now seat.new }
-        ensures answer { Inserts self.now.key.room (hands seat.old) word result (hands seat.new) }
+        ensures answer { Inserts self.now.setup.capacity (hands seat.old) word result (hands seat.new) }
     {
-        let room = self.key.room;
-        let mut place = home(word, room);
-        for _step in 0..room {
+        let capacity = self.setup.capacity;
+        let mut place = home(word, capacity);
+        for _step in 0..capacity {
             // A look costs less than a step that finds the cell taken.
             let seen = self.look(seat, cell_at(place));
             if seen == word {
                 return Inserted::Known { at: place };
             }
             if seen != 0 {
-                place = next_place(place, room);
+                place = next_place(place, capacity);
                 continue;
             }
             let found = self.put(seat, place, word);
@@ -35,7 +35,7 @@ impl<R: GoalRules> Board<R> {
             if found == word {
                 return Inserted::Known { at: place };
             }
-            place = next_place(place, room);
+            place = next_place(place, capacity);
         }
         self.fill(seat);
         Inserted::Full
@@ -45,10 +45,10 @@ impl<R: GoalRules> Board<R> {
     pub fn find(&self, seat: &mut Seat<R>, word: u64) -> Option<u32>
         requires { IsSeatOf R.meaning self.now seat.old }
         ensures seat { IsSeatOf R.meaning self.now seat.new }
-        ensures answer { Finds self.now.key.room (hands seat.old) word result (hands seat.new) }
+        ensures answer { Finds self.now.setup.capacity (hands seat.old) word result (hands seat.new) }
         ensures shown { HasSeenEntry R.meaning self.now seat.old word → IsSome result }
     {
-        let cells = self.key.room;
+        let cells = self.setup.capacity;
         let mut place = home(word, cells);
         for _step in 0..cells {
             let found = self.look(seat, cell_at(place));
@@ -67,7 +67,7 @@ impl<R: GoalRules> Board<R> {
     pub fn holds(&self, seat: &mut Seat<R>, word: u64) -> bool
         requires { IsSeatOf R.meaning self.now seat.old }
         ensures seat { IsSeatOf R.meaning self.now seat.new }
-        ensures answer { FindsWhether self.now.key.room (hands seat.old) word result (hands seat.new) }
+        ensures answer { FindsWhether self.now.setup.capacity (hands seat.old) word result (hands seat.new) }
         ensures shown { HasSeenEntry R.meaning self.now seat.old word → IsTrue result }
     {
         self.find(seat, word).is_some()
@@ -76,7 +76,7 @@ impl<R: GoalRules> Board<R> {
     /// The word that was found in the cell at a place.
     pub fn word_at(&self, seat: &mut Seat<R>, at: u32) -> Option<u64>
         requires seat { IsSeatOf R.meaning self.now seat.old }
-        requires near { at < self.now.key.room }
+        requires near { at < self.now.setup.capacity }
         ensures seat { IsSeatOf R.meaning self.now seat.new }
         ensures answer { ReadsCell (hands seat.old) at result (hands seat.new) }
     {

@@ -6,7 +6,7 @@ ghost use Rattle.goal_board.specs.Closing.{ReadsPlaces, ReadsFirstReady};
 
 use crate::answers::{Answer, Closed};
 use crate::steps::{CLOSED, cell_at, cost_at, head_at, node_at, run_at, who_at};
-use board_rule::{GoalRules, Key};
+use board_rule::{GoalRules, Setup};
 use orca_base::List;
 use std::alloc::{AllocError, Global};
 
@@ -48,16 +48,16 @@ fn push_worker(workers: &mut List<u32>, head: u64, who: u64) -> Result<(), Alloc
 }
 
 // The goal at a place, if it is ready.
-fn ready_at<R: GoalRules>(words: &Words, key: &Key<R>, place: u32) -> Option<u64>
-    requires read { IsFull words.now.words × (slots_len words.now.words ≡ 14 * key.now.room + 1) }
-    requires near { place < key.now.room }
-    ensures { ReadsReady (R.meaning key.now.rules) (mem (slots_items words.now.words)) place result }
+fn ready_at<R: GoalRules>(words: &Words, setup: &Setup<R>, place: u32) -> Option<u64>
+    requires read { IsFull words.now.words × (slots_len words.now.words ≡ 14 * setup.now.capacity + 1) }
+    requires near { place < setup.now.capacity }
+    ensures { ReadsReady (R.meaning setup.now.rules) (mem (slots_items words.now.words)) place result }
 {
     let word = words.word(cell_at(place));
     if word == 0 {
         return None;
     }
-    if !key.rules.is_goal(word) {
+    if !setup.rules.is_goal(word) {
         return None;
     }
     let run = words.word(run_at(place));
@@ -68,17 +68,17 @@ fn ready_at<R: GoalRules>(words: &Words, key: &Key<R>, place: u32) -> Option<u64
 fn first_ready<R: GoalRules>(
     before: Option<u64>,
     words: &Words,
-    key: &Key<R>,
+    setup: &Setup<R>,
     place: u32,
 ) -> Option<u64>
-    requires read { IsFull words.now.words × (slots_len words.now.words ≡ 14 * key.now.room + 1) }
-    requires near { place < key.now.room }
-    requires before { ReadsFirstReady R.meaning key.now (slots_items words.now.words) place before }
-    ensures { ReadsFirstReady R.meaning key.now (slots_items words.now.words) (place + 1) result }
+    requires read { IsFull words.now.words × (slots_len words.now.words ≡ 14 * setup.now.capacity + 1) }
+    requires near { place < setup.now.capacity }
+    requires before { ReadsFirstReady R.meaning setup.now (slots_items words.now.words) place before }
+    ensures { ReadsFirstReady R.meaning setup.now (slots_items words.now.words) (place + 1) result }
 {
     match before {
         Some(goal) => Some(goal),
-        None => ready_at(words, key, place),
+        None => ready_at(words, setup, place),
     }
 }
 
@@ -86,15 +86,15 @@ fn first_ready<R: GoalRules>(
 fn read_place<R: GoalRules>(
     closed: &mut Closed,
     words: &Words,
-    key: &Key<R>,
+    setup: &Setup<R>,
     place: u32,
 ) -> Result<(), AllocError>
-    requires read { IsFull words.now.words × (slots_len words.now.words ≡ 14 * key.now.room + 1) }
-    requires workers { HasWorkers (mem (slots_items words.now.words)) key.now.room }
-    requires near { place < key.now.room }
-    requires before { ReadsPlaces R.meaning key.now (slots_items words.now.words) place closed.old }
+    requires read { IsFull words.now.words × (slots_len words.now.words ≡ 14 * setup.now.capacity + 1) }
+    requires workers { HasWorkers (mem (slots_items words.now.words)) setup.now.capacity }
+    requires near { place < setup.now.capacity }
+    requires before { ReadsPlaces R.meaning setup.now (slots_items words.now.words) place closed.old }
     ensures { OnOk result
-        (ReadsPlaces R.meaning key.now (slots_items words.now.words) (place + 1) closed.new) }
+        (ReadsPlaces R.meaning setup.now (slots_items words.now.words) (place + 1) closed.new) }
 {
     let word = words.word(cell_at(place));
     let head = words.word(head_at(place));
@@ -105,7 +105,7 @@ fn read_place<R: GoalRules>(
     push_taken(&mut closed.cells, word)?;
     push_closed(&mut closed.answers, head, word, answer)?;
     push_worker(&mut closed.who, head, words.word(who_at(place)))?;
-    closed.ready = first_ready(closed.ready, words, key, place);
+    closed.ready = first_ready(closed.ready, words, setup, place);
     Ok(())
 }
 
@@ -113,12 +113,12 @@ fn read_place<R: GoalRules>(
 pub fn read_all<R: GoalRules>(
     alloc: Global,
     words: &Words,
-    key: &Key<R>,
+    setup: &Setup<R>,
 ) -> Result<Closed, AllocError>
-    requires read { IsFull words.now.words × (slots_len words.now.words ≡ 14 * key.now.room + 1) }
-    requires workers { HasWorkers (mem (slots_items words.now.words)) key.now.room }
+    requires read { IsFull words.now.words × (slots_len words.now.words ≡ 14 * setup.now.capacity + 1) }
+    requires workers { HasWorkers (mem (slots_items words.now.words)) setup.now.capacity }
     ensures { IfOk result
-        (ReadsPlaces R.meaning key.now (slots_items words.now.words) key.now.room) }
+        (ReadsPlaces R.meaning setup.now (slots_items words.now.words) setup.now.capacity) }
 {
     let mut closed = Closed {
         cells: List::new(alloc),
@@ -127,8 +127,8 @@ pub fn read_all<R: GoalRules>(
         full: words.word(0) != 0,
         ready: None,
     };
-    for place in 0..key.room {
-        read_place(&mut closed, words, key, place)?;
+    for place in 0..setup.capacity {
+        read_place(&mut closed, words, setup, place)?;
     }
     Ok(closed)
 }

@@ -13,13 +13,13 @@ impl<R: GoalRules> Board<R> {
     /// Claims the goal at a place, if it is ready.
     pub fn claim(&self, seat: &mut Seat<R>, at: u32) -> Option<Right>
         requires seat { IsSeatOf R.meaning self.now seat.old }
-        requires near { at < self.now.key.room }
+        requires near { at < self.now.setup.capacity }
         ensures seat { IsSeatOf R.meaning self.now seat.new }
         ensures answer { SeatClaims R.meaning self.now seat.old at result seat.new }
         ensures others { SeatKeepsRights R.meaning self.now seat.old seat.new }
     {
         let goal = self.look(seat, cell_at(at));
-        if goal == 0 || !self.key.rules.is_goal(goal) {
+        if goal == 0 || !self.setup.rules.is_goal(goal) {
             return None;
         }
         // A look costs less than a step that finds the goal taken.
@@ -72,8 +72,8 @@ impl<R: GoalRules> Board<R> {
         requires waits { right.waits ≡ 0 }
         requires worker { worker < 64 }
         requires promise { HasSeenPromise R.meaning self.now seat.old right.goal }
-        requires answer { (R.meaning self.now.key.rules).answer right.goal answer.cost answer.node }
-        requires hints { H.capacity hints.old ≡ self.now.key.room }
+        requires answer { (R.meaning self.now.setup.rules).answer right.goal answer.cost answer.node }
+        requires hints { H.capacity hints.old ≡ self.now.setup.capacity }
         ensures seat { IsSeatOf R.meaning self.now seat.new }
         ensures answer { SeatFinishes R.meaning self.now seat.old right.place worker answer result seat.new }
         ensures others { SeatKeepsOthers R.meaning self.now seat.old right.place seat.new }
@@ -94,7 +94,7 @@ impl<R: GoalRules> Board<R> {
     /// The answer of the goal at a place, if it is finished.
     pub fn answer(&self, seat: &mut Seat<R>, at: u32) -> Option<Answer>
         requires seat { IsSeatOf R.meaning self.now seat.old }
-        requires near { at < self.now.key.room }
+        requires near { at < self.now.setup.capacity }
         ensures seat { IsSeatOf R.meaning self.now seat.new }
         ensures answer { SeatReads R.meaning self.now seat.old at result seat.new }
         ensures shown { HasSeenClosed seat.old at → IsSome result }

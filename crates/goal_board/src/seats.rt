@@ -54,12 +54,12 @@ impl<R: GoalRules> Board<R> {
         requires parts { (hands seat).parts ≡ 64 }
         requires rights { (hands seat).rights ≡ [] }
         ensures { IfOk result (λ closed.
-            ClosesWith R.meaning self.key.rules self.key.room (hands seat) closed) }
+            ClosesWith R.meaning self.setup.rules self.setup.capacity (hands seat) closed) }
     {
-        let Board { table, key } = self;
+        let Board { table, setup } = self;
         let Seat { seat } = seat;
         let words = table.close_with(seat);
-        let read = read_all(alloc, &words, &key);
+        let read = read_all(alloc, &words, &setup);
         words.free();
         read
     }

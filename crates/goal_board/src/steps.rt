@@ -61,7 +61,7 @@ impl<R: GoalRules> Board<R> {
     // A load of any word.
     pub(crate) fn look(&self, seat: &mut Seat<R>, word: usize) -> u64
         requires seat { IsSeatOf R.meaning self.now seat.old }
-        requires word { word < 14 * self.now.key.room + 1 }
+        requires word { word < 14 * self.now.setup.capacity + 1 }
         ensures seat { IsSeatOf R.meaning self.now seat.new }
         ensures told { LooksAt R.meaning (hands seat.old) word result (hands seat.new) }
     {
@@ -71,7 +71,7 @@ impl<R: GoalRules> Board<R> {
     // Puts an entry into a cell, where it is empty. Gives what it found there.
     pub(crate) fn put(&self, seat: &mut Seat<R>, place: u32, word: u64) -> u64
         requires seat { IsSeatOf R.meaning self.now seat.old }
-        requires may { MayPut (R.meaning self.now.key.rules) self.now.key.room (hands seat.old) place word }
+        requires may { MayPut (R.meaning self.now.setup.rules) self.now.setup.capacity (hands seat.old) place word }
         ensures seat { IsSeatOf R.meaning self.now seat.new }
         ensures told { PutsIn R.meaning (hands seat.old) place word result (hands seat.new) }
     {
@@ -83,7 +83,7 @@ impl<R: GoalRules> Board<R> {
     // Claims a goal, where its run word is 0. Gives what it found there.
     pub(crate) fn hold(&self, seat: &mut Seat<R>, place: u32) -> u64
         requires seat { IsSeatOf R.meaning self.now seat.old }
-        requires may { MayClaim (R.meaning self.now.key.rules) self.now.key.room (hands seat.old) place }
+        requires may { MayClaim (R.meaning self.now.setup.rules) self.now.setup.capacity (hands seat.old) place }
         ensures seat { IsSeatOf R.meaning self.now seat.new }
         ensures told { ClaimsAt R.meaning (hands seat.old) place result (hands seat.new) }
     {
@@ -95,7 +95,7 @@ impl<R: GoalRules> Board<R> {
     // Gives up a right. Gives the run word as it was.
     pub(crate) fn release(&self, seat: &mut Seat<R>, place: u32) -> u64
         requires seat { IsSeatOf R.meaning self.now seat.old }
-        requires may { MaySuspend self.now.key.room (hands seat.old) place }
+        requires may { MaySuspend self.now.setup.capacity (hands seat.old) place }
         ensures seat { IsSeatOf R.meaning self.now seat.new }
         ensures told { SuspendsAt R.meaning (hands seat.old) place result (hands seat.new) }
     {
@@ -114,7 +114,7 @@ impl<R: GoalRules> Board<R> {
         _node: u64,
     ) -> u64
         requires seat { IsSeatOf R.meaning self.now seat.old }
-        requires may { MayClose (R.meaning self.now.key.rules) self.now.key.room (hands seat.old)
+        requires may { MayClose (R.meaning self.now.setup.rules) self.now.setup.capacity (hands seat.old)
             place _worker _cost _node }
         ensures seat { IsInCall R.meaning self.now seat.new }
         ensures told { ClosesHead R.meaning (hands seat.old) place _worker _cost _node
@@ -128,7 +128,7 @@ impl<R: GoalRules> Board<R> {
     // Stores of an answer, by the holder of its goal's right.
     pub(crate) fn store_cost(&self, seat: &mut Seat<R>, place: u32, cost: u64)
         requires seat { IsSeatOf R.meaning self.now seat.old }
-        requires may { HasRight self.now.key.room (hands seat.old).rights place }
+        requires may { HasRight self.now.setup.capacity (hands seat.old).rights place }
         ensures seat { IsSeatOf R.meaning self.now seat.new }
         ensures hands { hands seat.new ≡ cost_stored (hands seat.old) place cost }
     {
@@ -139,7 +139,7 @@ impl<R: GoalRules> Board<R> {
 
     pub(crate) fn store_node(&self, seat: &mut Seat<R>, place: u32, node: u64)
         requires seat { IsSeatOf R.meaning self.now seat.old }
-        requires may { HasRight self.now.key.room (hands seat.old).rights place }
+        requires may { HasRight self.now.setup.capacity (hands seat.old).rights place }
         ensures seat { IsSeatOf R.meaning self.now seat.new }
         ensures hands { hands seat.new ≡ node_stored (hands seat.old) place node }
     {
@@ -150,7 +150,7 @@ impl<R: GoalRules> Board<R> {
 
     pub(crate) fn store_who(&self, seat: &mut Seat<R>, place: u32, who: u64)
         requires seat { IsSeatOf R.meaning self.now seat.old }
-        requires may { HasRight self.now.key.room (hands seat.old).rights place }
+        requires may { HasRight self.now.setup.capacity (hands seat.old).rights place }
         ensures seat { IsSeatOf R.meaning self.now seat.new }
         ensures hands { hands seat.new ≡ who_stored (hands seat.old) place who }
     {
@@ -162,7 +162,7 @@ impl<R: GoalRules> Board<R> {
     // Sets the full word, where every cell was found taken by another word than this entry.
     pub(crate) fn fill(&self, seat: &mut Seat<R>)
         requires seat { IsSeatOf R.meaning self.now seat.old }
-        requires may { MayFill (R.meaning self.now.key.rules) self.now.key.room (hands seat.old) }
+        requires may { MayFill (R.meaning self.now.setup.rules) self.now.setup.capacity (hands seat.old) }
         ensures seat { IsSeatOf R.meaning self.now seat.new }
         ensures hands { hands seat.new ≡ filled (hands seat.old) }
     {

@@ -49,7 +49,7 @@ impl<R: GoalRules> Board<R> {
     // Sets the bit of a right's next wait. Gives the run word as it was.
     pub(crate) fn begin_wait(&self, seat: &mut Seat<R>, place: u32, waits: u32) -> u64
         requires seat { IsInCall R.meaning self.now seat.old }
-        requires may { MayBegin self.now.key.room (hands seat.old) (waiting_right place waits) }
+        requires may { MayBegin self.now.setup.capacity (hands seat.old) (waiting_right place waits) }
         ensures seat { IsInCall R.meaning self.now seat.new }
         ensures told { BeginsAt R.meaning (hands seat.old) place result (hands seat.new) }
     {
@@ -61,7 +61,7 @@ impl<R: GoalRules> Board<R> {
     // Looks at a child's head, for the wait that is being put in.
     pub(crate) fn see_head(&self, seat: &mut Seat<R>, child: u32) -> u64
         requires seat { IsInCall R.meaning self.now seat.old }
-        requires may { MaySee (R.meaning self.now.key.rules) self.now.key.room (hands seat.old)
+        requires may { MaySee (R.meaning self.now.setup.rules) self.now.setup.capacity (hands seat.old)
             (the_wait (hands seat.old)) child }
         ensures seat { IsInCall R.meaning self.now seat.new }
         ensures told { SeesHeadAt R.meaning (hands seat.old) (the_wait (hands seat.old)) child
@@ -77,7 +77,7 @@ impl<R: GoalRules> Board<R> {
         requires seat { IsInCall R.meaning self.now seat.old }
         requires may { MayLink (hands seat.old) (the_wait (hands seat.old)) head }
         requires waiter { (the_wait (hands seat.old)).waiter ≡ waiter }
-        requires near { waiter / 8 < self.now.key.room }
+        requires near { waiter / 8 < self.now.setup.capacity }
         ensures seat { IsInCall R.meaning self.now seat.new }
         ensures hands { hands seat.new ≡ next_stored (hands seat.old) (the_wait (hands seat.old)) head }
     {
@@ -89,10 +89,10 @@ impl<R: GoalRules> Board<R> {
     // Puts the waiter first into the child's list, where the head is as last seen. Gives the head as it was.
     pub(crate) fn put_wait(&self, seat: &mut Seat<R>, waiter: u32, child: u32, head: u64) -> u64
         requires seat { IsInCall R.meaning self.now seat.old }
-        requires may { MayPush self.now.key.room (hands seat.old) (the_wait (hands seat.old)) head }
+        requires may { MayPush self.now.setup.capacity (hands seat.old) (the_wait (hands seat.old)) head }
         requires waiter { (the_wait (hands seat.old)).waiter ≡ waiter }
         requires child { (the_wait (hands seat.old)).child ≡ child }
-        requires near { child < self.now.key.room }
+        requires near { child < self.now.setup.capacity }
         requires fits { pushed head waiter < 2 ^ 64 }
         ensures seat { IsInCall R.meaning self.now seat.new }
         ensures told { PushesWait R.meaning (hands seat.old) (the_wait (hands seat.old)) head
@@ -109,7 +109,7 @@ impl<R: GoalRules> Board<R> {
         requires seat { IsInCall R.meaning self.now seat.old }
         requires may { MayDrop (hands seat.old) (the_wait (hands seat.old)) }
         requires waiter { (the_wait (hands seat.old)).waiter ≡ waiter }
-        requires near { waiter / 8 < self.now.key.room }
+        requires near { waiter / 8 < self.now.setup.capacity }
         ensures seat { IsInCall R.meaning self.now seat.new }
         ensures told { DropsWaitOf R.meaning (hands seat.old) (the_wait (hands seat.old))
             result (hands seat.new) }
@@ -123,7 +123,7 @@ impl<R: GoalRules> Board<R> {
     pub(crate) fn read_next(&self, seat: &mut Seat<R>, waiter: u32) -> u64
         requires seat { IsInCall R.meaning self.now seat.old }
         requires may { MayWalk (hands seat.old) waiter }
-        requires near { waiter / 8 < self.now.key.room }
+        requires near { waiter / 8 < self.now.setup.capacity }
         ensures seat { IsInCall R.meaning self.now seat.new }
         ensures told { ReadsNextOf R.meaning (hands seat.old) waiter result (hands seat.new) }
     {
@@ -136,7 +136,7 @@ impl<R: GoalRules> Board<R> {
     pub(crate) fn clear_bit(&self, seat: &mut Seat<R>, waiter: u32) -> u64
         requires seat { IsInCall R.meaning self.now seat.old }
         requires may { MayWalk (hands seat.old) waiter }
-        requires near { waiter / 8 < self.now.key.room }
+        requires near { waiter / 8 < self.now.setup.capacity }
         ensures seat { IsInCall R.meaning self.now seat.new }
         ensures told { ClearsBitOf R.meaning (hands seat.old) waiter result (hands seat.new) }
     {

@@ -13,7 +13,7 @@ impl<R: GoalRules> Board<R> {
     pub fn wait_for(&self, seat: &mut Seat<R>, right: &mut Right, child_at: u32) -> Awaited
         requires seat { IsSeatOf R.meaning self.now seat.old }
         requires right { HasRightTo R.meaning self.now seat.old right.old }
-        requires near { child_at < self.now.key.room }
+        requires near { child_at < self.now.setup.capacity }
         requires child { HasSeenChild R.meaning self.now seat.old right.old.goal child_at }
         requires fewer { right.old.waits < 8 }
         ensures seat { IsSeatOf R.meaning self.now seat.new }

@@ -17,11 +17,11 @@ impl<R: GoalRules> Board<R> {
         requires seat { IsInCall R.meaning self.now seat.old }
         requires no_wait { (hands seat.old).pending ≡ None }
         requires named { head ≡ head_of (hands seat.old).walk.waiters }
-        requires near { Each (λ waiter. waiter < 8 * self.now.key.room) (hands seat.old).walk.waiters }
-        requires few { length (hands seat.old).walk.waiters ≤ 8 * self.now.key.room }
-        requires hints { H.capacity hints.old ≡ self.now.key.room }
+        requires near { Each (λ waiter. waiter < 8 * self.now.setup.capacity) (hands seat.old).walk.waiters }
+        requires few { length (hands seat.old).walk.waiters ≤ 8 * self.now.setup.capacity }
+        requires hints { H.capacity hints.old ≡ self.now.setup.capacity }
         ensures seat { IsSeatOf R.meaning self.now seat.new }
-        ensures answer { Wakes self.now.key.room (hands seat.old) result (hands seat.new) }
+        ensures answer { Wakes self.now.setup.capacity (hands seat.old) result (hands seat.new) }
         ensures hints { H.capacity hints.new ≡ H.capacity hints.old }
     {
         let mut woken = Woken {

@@ -21,26 +21,26 @@ use Rattle.job_engine.specs.declared.engine.Engine.{Engine}
 module _ (e : Engine) (v : Hands Rules) (closed : Closed) where
   -- the board of the engine's scheduler is that of the query's search
   pub closes_search : Looked v.looks (cell_word e.scheduler.root) e.scheduler.goal
-      → ClosesWith rules_mean e.scheduler.board.key.rules e.scheduler.board.key.room v closed
-      → ClosesSearch (query_of e) e.room e.scheduler.root v closed
+      → ClosesWith rules_mean e.scheduler.board.setup.rules e.scheduler.board.setup.capacity v closed
+      → ClosesSearch (query_of e) e.cells e.scheduler.root v closed
   closes_search root closes = record {
-    rules = e.scheduler.board.key.rules;
+    rules = e.scheduler.board.setup.rules;
     its_query = ap (λ (r : Rules). r.query.now) e.of_rules;
-    closes = subst (λ n. ClosesWith rules_mean e.scheduler.board.key.rules n v closed) e.same_room closes;
-    near = subst (λ n. e.scheduler.root < n) e.same_room e.scheduler.near;
+    closes = subst (λ n. ClosesWith rules_mean e.scheduler.board.setup.rules n v closed) e.same_cells closes;
+    near = subst (λ n. e.scheduler.root < n) e.same_cells e.scheduler.near;
     root = subst (λ g. Looked v.looks (cell_word e.scheduler.root) g) (e.same_goal ∙ e.its_root) root;
   }
 
 -- an outcome with all goals is an end
 pub done_ends : (outcome : Outcome) → IsDoneCase outcome → IsEnd outcome
 done_ends (Done members goals answers who) is = tt
-done_ends (Full room) is = absurd is
+done_ends (Full told) is = absurd is
 done_ends (Unfinished goal) is = absurd is
 
 -- and so is that the board was full
 pub full_ends : (outcome : Outcome) → IsFullCase outcome → IsEnd outcome
 full_ends (Done members goals answers who) is = absurd is
-full_ends (Full room) is = tt
+full_ends (Full told) is = tt
 full_ends (Unfinished goal) is = absurd is
 
 -- there are no more answers than places
@@ -60,18 +60,19 @@ answers_few m (suc n) = omega (
   one_more (m.head n) (answers_below m n) (m.cell n, record { cost = m.cost n; node = m.node n }),
 )
 
-answers_fit : (q : Query) (cap place : ℕ) (v : Hands Rules) (closed : Closed) → ClosesSearch q cap place v closed
-    → length closed.answers ≤ cap
-answers_fit q cap place v closed its =
-    let few = answers_few (mem its.closes.words) cap in
+answers_fit : (q : Query) (capacity place : ℕ) (v : Hands Rules) (closed : Closed)
+    → ClosesSearch q capacity place v closed
+    → length closed.answers ≤ capacity
+answers_fit q capacity place v closed its =
+    let few = answers_few (mem its.closes.words) capacity in
     let same = ap (λ (l : List (ℕ × Answer)). length l) its.closes.reads.answers in
     omega (arith, few, same)
 
 -- and no more goals were finished than the board has cells
-pub finished_few : (q : Query) (cap place : ℕ) (v : Hands Rules) (closed : Closed)
-    (its : ClosesSearch q cap place v closed) (outcome : Outcome)
-    → IsOutcome q cap (mem its.closes.words).cell v.done closed outcome → finished_count closed outcome ≤ cap
-finished_few q cap place v closed its (Done members goals answers who) is = let few = is.1.fits.few in
+pub finished_few : (q : Query) (capacity place : ℕ) (v : Hands Rules) (closed : Closed)
+    (its : ClosesSearch q capacity place v closed) (outcome : Outcome)
+    → IsOutcome q capacity (mem its.closes.words).cell v.done closed outcome → finished_count closed outcome ≤ capacity
+finished_few q capacity place v closed its (Done members goals answers who) is = let few = is.1.fits.few in
     omega (arith, few)
-finished_few q cap place v closed its (Full room) is = answers_fit q cap place v closed its
-finished_few q cap place v closed its (Unfinished goal) is = answers_fit q cap place v closed its
+finished_few q capacity place v closed its (Full told) is = answers_fit q capacity place v closed its
+finished_few q capacity place v closed its (Unfinished goal) is = answers_fit q capacity place v closed its

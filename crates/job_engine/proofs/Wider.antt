@@ -14,9 +14,9 @@ use Rattle.job_turns.specs.Works.{Adds}
 
 -- what may be put in by one measure may be by a wider one
 pub turns_wider : {R : Type 0} → (Adds Wider : ℕ → Type 0) → ((word : ℕ) → Adds word → Wider word)
-    → (room : ℕ) (v : Hands R) (right : Right) (worker : ℕ) (result : Turned) (w : Hands R)
-    → Turns room Adds v right worker result w → Turns room Wider v right worker result w
-turns_wider Adds Wider wider room v right worker (turned.Finished woken) w t = record {
+    → (cells : ℕ) (v : Hands R) (right : Right) (worker : ℕ) (result : Turned) (w : Hands R)
+    → Turns cells Adds v right worker result w → Turns cells Wider v right worker result w
+turns_wider Adds Wider wider cells v right worker (turned.Finished woken) w t = record {
   middle = t.middle;
   after = t.after;
   proceeds = proceeds_wider Adds Wider wider v right t.middle t.after t.proceeds;
@@ -24,17 +24,17 @@ turns_wider Adds Wider wider room v right worker (turned.Finished woken) w t = r
   node = t.node;
   finishes = t.finishes;
 }
-turns_wider Adds Wider wider room v right worker turned.Suspended w t = record {
+turns_wider Adds Wider wider cells v right worker turned.Suspended w t = record {
   middle = t.middle;
   after = t.after;
   proceeds = proceeds_wider Adds Wider wider v right t.middle t.after t.proceeds;
   some_wait = t.some_wait;
   gives_up = t.gives_up;
 }
-turns_wider Adds Wider wider room v right worker turned.Full w t = record {
+turns_wider Adds Wider wider cells v right worker turned.Full w t = record {
   middle = t.middle;
   after = t.after;
-  runs_out = runs_out_wider Adds Wider wider room v right t.middle t.after t.runs_out;
+  runs_out = runs_out_wider Adds Wider wider cells v right t.middle t.after t.runs_out;
   gives_up = t.gives_up;
 }
 

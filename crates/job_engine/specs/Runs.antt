@@ -16,53 +16,53 @@ use Rattle.job_engine.specs.Searching.{Gives}
 
 -- n workers finished all goals of the query: all members, all goals, the answers to these in their order, and for each
 -- the number of a worker
-pub record IsDoneBy (q : Query) (cap n : ℕ)
+pub record IsDoneBy (q : Query) (capacity n : ℕ)
     (members goals : List ℕ) (answers : List Answered) (who : List ℕ) : Type 0 where
-  pub fits : FitsIn q cap members goals
+  pub fits : FitsIn q capacity members goals
   pub are_answers : AreAnswers q answers
   pub in_order : words_told answers ≡ goals
   pub one_each : length who ≡ length goals
   pub below : All (λ worker. worker < n) who
 
 -- the query has more entries than this capacity
-pub record Exceeds (q : Query) (cap room : ℕ) : Type 0 where
-  pub capacity : room ≡ cap
-  pub more : HasMoreEntries q cap
+pub record Exceeds (q : Query) (capacity told : ℕ) : Type 0 where
+  pub same : told ≡ capacity
+  pub more : HasMoreEntries q capacity
 
 -- all goals are finished, or the query has more entries than the capacity
-abbrev pub RunEnds : Query → (cap n : ℕ) → Outcome → Type 0
-RunEnds q cap n (Done members goals answers who) = IsDoneBy q cap n members goals answers.list who
-RunEnds q cap n (Full room) = Exceeds q cap room
-RunEnds q cap n (Unfinished goal) = ⊥
+abbrev pub RunEnds : Query → (capacity n : ℕ) → Outcome → Type 0
+RunEnds q capacity n (Done members goals answers who) = IsDoneBy q capacity n members goals answers.list who
+RunEnds q capacity n (Full told) = Exceeds q capacity told
+RunEnds q capacity n (Unfinished goal) = ⊥
 
 -- ---- what a note says
 
 -- the capacity, the number of workers, and how many goals were finished, which are all of them where the run is done
-abbrev pub IsNoted : (cap n : ℕ) → Outcome → Option (ℕ × ℕ × ℕ) → Type 0
-IsNoted cap n (Done members goals answers who) last = last ≡ Some (cap, n, length goals)
-IsNoted cap n (Full room) last = (finished : ℕ) × (last ≡ Some (cap, n, finished))
-IsNoted cap n (Unfinished goal) last = ⊥
+abbrev pub IsNoted : (capacity n : ℕ) → Outcome → Option (ℕ × ℕ × ℕ) → Type 0
+IsNoted capacity n (Done members goals answers who) last = last ≡ Some (capacity, n, length goals)
+IsNoted capacity n (Full told) last = (finished : ℕ) × (last ≡ Some (capacity, n, finished))
+IsNoted capacity n (Unfinished goal) last = ⊥
 
 -- ---- the board that was closed
 
 -- how many goals were finished
 abbrev pub finished_count : Closed → Outcome → ℕ
 finished_count closed (Done members goals answers who) = length goals
-finished_count closed (Full room) = length closed.answers
+finished_count closed (Full told) = length closed.answers
 finished_count closed (Unfinished goal) = length closed.answers
 
 -- the outcome is of a board of that many cells whose last seat has in its list what n workers finished; the note has
 -- the capacity and counts the goals that were finished on the board
-pub record IsRun (q : Query) (room cap n : ℕ) (outcome : Outcome) (note : Option (ℕ × ℕ × ℕ)) : Type 0 where
+pub record IsRun (q : Query) (cells capacity n : ℕ) (outcome : Outcome) (note : Option (ℕ × ℕ × ℕ)) : Type 0 where
   pub place : ℕ
   pub view : Hands Rules
-  pub gives : Gives q room place view outcome
+  pub gives : Gives q cells place view outcome
   pub ended : IsEnd outcome
   pub done : AreDoneBelow n view.done
-  pub noted : note ≡ Some (cap, n, finished_count gives.closed outcome)
+  pub noted : note ≡ Some (capacity, n, finished_count gives.closed outcome)
 
 -- a run was made, on a board of at most so many cells as the capacity
-pub record IsRunWithin (q : Query) (cap n : ℕ) (outcome : Outcome) (note : Option (ℕ × ℕ × ℕ)) : Type 0 where
-  pub room : ℕ
-  pub within : room ≤ cap
-  pub run : IsRun q room cap n outcome note
+pub record IsRunWithin (q : Query) (capacity n : ℕ) (outcome : Outcome) (note : Option (ℕ × ℕ × ℕ)) : Type 0 where
+  pub cells : ℕ
+  pub within : cells ≤ capacity
+  pub run : IsRun q cells capacity n outcome note

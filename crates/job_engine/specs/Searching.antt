@@ -35,7 +35,7 @@ IsWorker engine w = IsFreeWorkerOf rules_mean engine.scheduler.board engine.sche
 pub record IsFresh (engine : Engine) (w : Worker Rules) : Type 0 where
   pub its : IsWorker engine w
   pub number : w.number ≡ 0
-  pub opening : IsOpening engine.room engine.scheduler.root (goal_word (root_goal_of (query_of engine))) (hands w.seat)
+  pub opening : IsOpening engine.cells engine.scheduler.root (goal_word (root_goal_of (query_of engine))) (hands w.seat)
 
 -- the last worker of a crew of n, which has seen the end
 pub record IsLast (engine : Engine) (n : ℕ) (w : Worker Rules) : Type 0 where
@@ -47,11 +47,11 @@ pub record IsLast (engine : Engine) (n : ℕ) (w : Worker Rules) : Type 0 where
 
 -- what the answer of a step means, for the worker with this number
 abbrev pub StepsIn : Engine → (number : ℕ) → Hands Rules → Stepped → Hands Rules → Type 0
-StepsIn engine number = Steps (meaning_of (query_of engine)) engine.room engine.scheduler.root number
+StepsIn engine number = Steps (meaning_of (query_of engine)) engine.cells engine.scheduler.root number
 
 -- and for a worker that is alone
 abbrev pub StepsAloneIn : Engine → Hands Rules → Stepped → Hands Rules → Type 0
-StepsAloneIn engine = StepsAlone (meaning_of (query_of engine)) engine.room
+StepsAloneIn engine = StepsAlone (meaning_of (query_of engine)) engine.cells
 
 -- the looks show the root's goal finished
 abbrev pub ShowsRoot : Engine → Hands Rules → Type 0
@@ -60,11 +60,11 @@ ShowsRoot engine v = ShowsClosed v.looks engine.scheduler.root
 -- ---- what a search gives
 
 -- a seat with these hands closed the board of so many cells, and this is what the board held
-pub record Gives (q : Query) (room place : ℕ) (v : Hands Rules) (outcome : Outcome) : Type 0 where
+pub record Gives (q : Query) (cells place : ℕ) (v : Hands Rules) (outcome : Outcome) : Type 0 where
   pub closed : Closed
-  pub its : ClosesSearch q room place v closed
-  pub is : IsOutcome q room (mem its.closes.words).cell v.done closed outcome
+  pub its : ClosesSearch q cells place v closed
+  pub is : IsOutcome q cells (mem its.closes.words).cell v.done closed outcome
 
 -- a seat with these hands closed the engine's board
 abbrev pub GivesFor : Engine → Hands Rules → Outcome → Type 0
-GivesFor engine = Gives (query_of engine) engine.room engine.scheduler.root
+GivesFor engine = Gives (query_of engine) engine.cells engine.scheduler.root

@@ -28,13 +28,13 @@ pub struct Engine<'q> {
     pub(crate) scheduler: Scheduler<Rules<'q>, QueryJobs<'q>>,
     pub(crate) rules: Rules<'q>,
     pub(crate) root: Goal,
-    pub(crate) room: u32,
-    pub(crate) cap: u32,
-    ghost of_rules: { scheduler.board.key.rules ≡ rules } by { Coded-set rules-code scheduler.board.key.rules rules },
-    ghost same_room: { scheduler.board.key.room ≡ room },
+    pub(crate) cells: u32,
+    pub(crate) capacity: u32,
+    ghost of_rules: { scheduler.board.setup.rules ≡ rules } by { Coded-set rules-code scheduler.board.setup.rules rules },
+    ghost same_cells: { scheduler.board.setup.capacity ≡ cells },
     ghost same_goal: { scheduler.goal ≡ root.0 },
     ghost its_root: { root.0 ≡ goal_word (root_goal_of rules.query.now) },
-    ghost few: { room ≤ 2 ^ 20 },
+    ghost few: { cells ≤ 2 ^ 20 },
 }
 
 impl<'q> Engine<'q> {
@@ -44,47 +44,47 @@ impl<'q> Engine<'q> {
     ghost use Rattle.job_engine.specs.Searching.{query_of, IsWorker, IsFresh, ShowsRoot};
     ghost use Rattle.job_engine.specs.Searching.{StepsIn, StepsAloneIn, GivesFor};
 
-    /// A search with a board of `cap` cells, and its first worker, whose number is 0. All memory of the search but that
-    /// of hints is taken here.
+    /// A search with a board of `capacity` cells, and its first worker, whose number is 0. All memory of the search is
+    /// taken here, but for that of hints.
     pub fn start(
         alloc: Global,
         query: &'q Query,
         props: &'q Props,
-        cap: u32,
+        capacity: u32,
     ) -> Result<(Engine<'q>, Worker<Rules<'q>>), AllocError>
         requires props { IsProps query.now props.now }
-        requires capacity { (1 ≤ cap) × (cap ≤ 2 ^ 20) }
+        requires capacity { (1 ≤ capacity) × (capacity ≤ 2 ^ 20) }
         ensures query { IfOk result (λ made. query_of made.0 ≡ query.now) }
-        ensures capacity { IfOk result (λ made. (made.0.cap ≡ cap) × (made.0.room ≡ cap)) }
+        ensures capacity { IfOk result (λ made. (made.0.capacity ≡ capacity) × (made.0.cells ≡ capacity)) }
         ensures worker { IfOk result (λ made. IsFresh made.0 made.1) }
     {
-        Engine::start_on(alloc, query, props, cap, cap)
+        Engine::start_on(alloc, query, props, capacity, capacity)
     }
 
-    // The same with a board of `room` cells, for a query that may have `cap` entries.
+    // The same with a board of `cells` cells, for a query that may have `capacity` entries.
     pub(crate) fn start_on(
         alloc: Global,
         query: &'q Query,
         props: &'q Props,
-        room: u32,
-        cap: u32,
+        cells: u32,
+        capacity: u32,
     ) -> Result<(Engine<'q>, Worker<Rules<'q>>), AllocError>
         requires props { IsProps query.now props.now }
-        requires room { (1 ≤ room) × (room ≤ 2 ^ 20) }
+        requires cells { (1 ≤ cells) × (cells ≤ 2 ^ 20) }
         ensures query { IfOk result (λ made. query_of made.0 ≡ query.now) }
-        ensures capacity { IfOk result (λ made. (made.0.cap ≡ cap) × (made.0.room ≡ room)) }
+        ensures capacity { IfOk result (λ made. (made.0.capacity ≡ capacity) × (made.0.cells ≡ cells)) }
         ensures worker { IfOk result (λ made. IsFresh made.0 made.1) }
     {
         let rules = Rules::new(query, props);
         let root = root_word(query, props);
         let jobs = QueryJobs { rules, props };
-        let (scheduler, worker) = Scheduler::start(alloc, rules, jobs, root.0, room)?;
+        let (scheduler, worker) = Scheduler::start(alloc, rules, jobs, root.0, cells)?;
         let engine = Engine {
             scheduler,
             rules,
             root,
-            room,
-            cap,
+            cells,
+            capacity,
         };
         Ok((engine, worker))
     }
@@ -154,11 +154,11 @@ impl<'q> Engine<'q> {
             scheduler,
             rules,
             root,
-            room,
-            cap: _,
+            cells,
+            capacity: _,
         } = self;
         let closed = scheduler.close(alloc, worker)?;
-        outcome_of(alloc, rules.query, root, room, closed)
+        outcome_of(alloc, rules.query, root, cells, closed)
     }
 }
 

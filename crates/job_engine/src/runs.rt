@@ -24,10 +24,10 @@ pub fn run_alone<'q>(
     note: &mut RunNote,
 ) -> Result<Outcome, AllocError>
     requires { IsFresh engine worker }
-    ensures ends { IfOk result (RunEnds (query_of engine.entry) engine.entry.room 1) }
-    ensures noted { IfOk result (λ outcome. IsNoted engine.entry.cap 1 outcome note.new) }
+    ensures ends { IfOk result (RunEnds (query_of engine.entry) engine.entry.cells 1) }
+    ensures noted { IfOk result (λ outcome. IsNoted engine.entry.capacity 1 outcome note.new) }
     ensures run { IfOk result (λ outcome.
-        IsRun (query_of engine.entry) engine.entry.room engine.entry.cap 1 outcome note.new) }
+        IsRun (query_of engine.entry) engine.entry.cells engine.entry.capacity 1 outcome note.new) }
     ensures err { OnErr result (note.new ≡ note.old) }
 {
     let mut worker = worker;
@@ -48,10 +48,10 @@ pub fn run_crew<'q, W: Threads + Wait + Sync, G: Gate>(
 ) -> Result<Outcome, AllocError>
     requires fresh { IsFresh engine worker }
     requires workers { (1 ≤ n) × (n ≤ 64) }
-    ensures ends { IfOk result (RunEnds (query_of engine.entry) engine.entry.room n) }
-    ensures noted { IfOk result (λ outcome. IsNoted engine.entry.cap n outcome note.new) }
+    ensures ends { IfOk result (RunEnds (query_of engine.entry) engine.entry.cells n) }
+    ensures noted { IfOk result (λ outcome. IsNoted engine.entry.capacity n outcome note.new) }
     ensures run { IfOk result (λ outcome.
-        IsRun (query_of engine.entry) engine.entry.room engine.entry.cap n outcome note.new) }
+        IsRun (query_of engine.entry) engine.entry.cells engine.entry.capacity n outcome note.new) }
     ensures err { OnErr result (note.new ≡ note.old) }
 {
     let worker = engine.scheduler.work_crew(rt, alloc, worker, n, gate)?;
@@ -67,17 +67,17 @@ fn end<'q>(
     note: &mut RunNote,
 ) -> Result<Outcome, AllocError>
     requires { IsLast engine n worker }
-    ensures ends { IfOk result (RunEnds (query_of engine.entry) engine.entry.room n) }
-    ensures noted { IfOk result (λ outcome. IsNoted engine.entry.cap n outcome note.new) }
+    ensures ends { IfOk result (RunEnds (query_of engine.entry) engine.entry.cells n) }
+    ensures noted { IfOk result (λ outcome. IsNoted engine.entry.capacity n outcome note.new) }
     ensures run { IfOk result (λ outcome.
-        IsRun (query_of engine.entry) engine.entry.room engine.entry.cap n outcome note.new) }
+        IsRun (query_of engine.entry) engine.entry.cells engine.entry.capacity n outcome note.new) }
     ensures err { OnErr result (note.new ≡ note.old) }
 {
     // For the proof: each finished goal has one worker, which the last one's seat has in its list.
     finishers_are_known();
-    let cap = engine.cap;
+    let capacity = engine.capacity;
     let (outcome, finished) = close_board(alloc, engine, worker, n)?;
-    note.filled = Some((cap, n, finished));
+    note.filled = Some((capacity, n, finished));
     Ok(outcome)
 }
 
@@ -90,19 +90,19 @@ fn close_board<'q>(
     _n: u32,
 ) -> Result<(Outcome, u32), AllocError>
     requires { IsLast engine _n worker }
-    ensures { IfOk result (λ held. IsRun (query_of engine.entry) engine.entry.room
-        engine.entry.cap _n held.0 (Some (engine.entry.cap, _n, held.1))) }
+    ensures { IfOk result (λ held. IsRun (query_of engine.entry) engine.entry.cells
+        engine.entry.capacity _n held.0 (Some (engine.entry.capacity, _n, held.1))) }
 {
     let Engine {
         scheduler,
         rules,
         root,
-        room,
-        cap: _,
+        cells,
+        capacity: _,
     } = engine;
     let closed = scheduler.close(alloc, worker)?;
     let answers = closed.answers.len();
-    let outcome = outcome_of(alloc, rules.query, root, room, closed)?;
+    let outcome = outcome_of(alloc, rules.query, root, cells, closed)?;
     let finished = goals_finished(&outcome, answers);
     Ok((outcome, finished as u32))
 }
@@ -119,7 +119,7 @@ fn goals_finished(outcome: &Outcome, answers: usize) -> usize
             answers: _,
             who: _,
         } => goals.len(),
-        Outcome::Full { cap: _ } => answers,
+        Outcome::Full { capacity: _ } => answers,
         Outcome::Unfinished { ready: _ } => answers,
     }
 }

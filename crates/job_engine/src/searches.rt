@@ -24,81 +24,81 @@ use std::thread::Threads;
 // places.
 const LEAST_FREE: usize = 128;
 
-/// Searches by one worker on a board of at most `cap` cells. It returns. The note is that of the run which gave the
-/// outcome.
+/// Searches by one worker on a board of at most `capacity` cells. It returns. The note is that of the run which gave
+/// the outcome.
 pub fn search_alone(
     alloc: Global,
     query: &Query,
     props: &Props,
-    cap: u32,
+    capacity: u32,
     note: &mut RunNote,
 ) -> Result<Outcome, AllocError>
     requires props { IsProps query.now props.now }
-    requires capacity { (1 ≤ cap) × (cap ≤ 2 ^ 20) }
-    ensures ends { IfOk result (RunEnds query.now cap 1) }
-    ensures noted { IfOk result (λ outcome. IsNoted cap 1 outcome note.new) }
-    ensures run { IfOk result (λ outcome. IsRunWithin query.now cap 1 outcome note.new) }
+    requires capacity { (1 ≤ capacity) × (capacity ≤ 2 ^ 20) }
+    ensures ends { IfOk result (RunEnds query.now capacity 1) }
+    ensures noted { IfOk result (λ outcome. IsNoted capacity 1 outcome note.new) }
+    ensures run { IfOk result (λ outcome. IsRunWithin query.now capacity 1 outcome note.new) }
     ensures err { OnErr result (note.new ≡ note.old) }
 {
-    let room = usual_room(query, props, cap);
-    if room < cap {
-        let (outcome, filled) = run_alone_on(alloc, query, props, room, cap)?;
+    let cells = usual_cells(query, props, capacity);
+    if cells < capacity {
+        let (outcome, filled) = run_alone_on(alloc, query, props, cells, capacity)?;
         if is_done(&outcome) {
             *note = filled;
             return Ok(outcome);
         }
     }
-    let (engine, worker) = Engine::start(alloc, query, props, cap)?;
+    let (engine, worker) = Engine::start(alloc, query, props, capacity)?;
     run_alone(alloc, engine, worker, note)
 }
 
-/// Searches by n workers on a board of at most `cap` cells, each worker in a thread of its own, which passes the gate
-/// before each of its steps. A search that is made again on a larger board is a second run, in which each worker's turns
-/// at the gate begin at 0 again. It may wait. The note is that of the run which gave the outcome.
+/// Searches by n workers on a board of at most `capacity` cells. Each worker is in a thread of its own, which passes the
+/// gate before each of its steps. A search that is made again on a larger board is a second run, in which each worker's
+/// turns at the gate begin at 0 again. It may wait. The note is that of the run which gave the outcome.
 pub fn search_by_crew<W: Threads + Wait + Sync, G: Gate>(
     rt: &W,
     alloc: Global,
     query: &Query,
     props: &Props,
-    cap: u32,
+    capacity: u32,
     n: u32,
     gate: &G,
     note: &mut RunNote,
 ) -> Result<Outcome, AllocError>
     requires props { IsProps query.now props.now }
-    requires capacity { (1 ≤ cap) × (cap ≤ 2 ^ 20) }
+    requires capacity { (1 ≤ capacity) × (capacity ≤ 2 ^ 20) }
     requires workers { (1 ≤ n) × (n ≤ 64) }
-    ensures ends { IfOk result (RunEnds query.now cap n) }
-    ensures noted { IfOk result (λ outcome. IsNoted cap n outcome note.new) }
-    ensures run { IfOk result (λ outcome. IsRunWithin query.now cap n outcome note.new) }
+    ensures ends { IfOk result (RunEnds query.now capacity n) }
+    ensures noted { IfOk result (λ outcome. IsNoted capacity n outcome note.new) }
+    ensures run { IfOk result (λ outcome. IsRunWithin query.now capacity n outcome note.new) }
     ensures err { OnErr result (note.new ≡ note.old) }
 {
-    let room = usual_room(query, props, cap);
-    if room < cap {
-        let (outcome, filled) = run_crew_on(rt, alloc, query, props, room, cap, n, gate)?;
+    let cells = usual_cells(query, props, capacity);
+    if cells < capacity {
+        let (outcome, filled) = run_crew_on(rt, alloc, query, props, cells, capacity, n, gate)?;
         if is_done(&outcome) {
             *note = filled;
             return Ok(outcome);
         }
     }
-    let (engine, worker) = Engine::start(alloc, query, props, cap)?;
+    let (engine, worker) = Engine::start(alloc, query, props, capacity)?;
     run_crew(rt, alloc, engine, worker, n, gate, note)
 }
 
 // How many cells a search of such a query usually wants.
-fn usual_room(query: &Query, props: &Props, cap: u32) -> u32
+fn usual_cells(query: &Query, props: &Props, capacity: u32) -> u32
     requires props { IsProps query.now props.now }
-    requires some { 1 ≤ cap }
-    ensures { (1 ≤ result) × (result ≤ cap) }
+    requires some { 1 ≤ capacity }
+    ensures { (1 ≤ result) × (result ≤ capacity) }
 {
     let entries = expected_entries(query, props);
     let usual = entries
         .saturating_add(entries / 4)
         .saturating_add(LEAST_FREE);
-    if usual < cap as usize {
+    if usual < capacity as usize {
         usual as u32
     } else {
-        cap
+        capacity
     }
 }
 
@@ -137,22 +137,22 @@ fn expected_in(query: &Query, props: &Props, key: Key) -> usize
     (expressions.saturating_mul(halves) / 2).saturating_add(requests)
 }
 
-// A run by one worker on a board of `room` cells, with its note.
+// A run by one worker on a board of `cells` cells, with its note.
 fn run_alone_on(
     alloc: Global,
     query: &Query,
     props: &Props,
-    room: u32,
-    cap: u32,
+    cells: u32,
+    capacity: u32,
 ) -> Result<(Outcome, RunNote), AllocError>
     requires props { IsProps query.now props.now }
-    requires room { (1 ≤ room) × (room ≤ 2 ^ 20) }
-    ensures ends { IfOk result (λ made. RunEnds query.now room 1 made.0) }
-    ensures noted { IfOk result (λ made. IsNoted cap 1 made.0 made.1) }
-    ensures run { IfOk result (λ made. IsRun query.now room cap 1 made.0 made.1) }
+    requires cells { (1 ≤ cells) × (cells ≤ 2 ^ 20) }
+    ensures ends { IfOk result (λ made. RunEnds query.now cells 1 made.0) }
+    ensures noted { IfOk result (λ made. IsNoted capacity 1 made.0 made.1) }
+    ensures run { IfOk result (λ made. IsRun query.now cells capacity 1 made.0 made.1) }
 {
     let mut note = RunNote::new();
-    let (engine, worker) = Engine::start_on(alloc, query, props, room, cap)?;
+    let (engine, worker) = Engine::start_on(alloc, query, props, cells, capacity)?;
     let outcome = run_alone(alloc, engine, worker, &mut note)?;
     Ok((outcome, note))
 }
@@ -163,20 +163,20 @@ fn run_crew_on<W: Threads + Wait + Sync, G: Gate>(
     alloc: Global,
     query: &Query,
     props: &Props,
-    room: u32,
-    cap: u32,
+    cells: u32,
+    capacity: u32,
     n: u32,
     gate: &G,
 ) -> Result<(Outcome, RunNote), AllocError>
     requires props { IsProps query.now props.now }
-    requires room { (1 ≤ room) × (room ≤ 2 ^ 20) }
+    requires cells { (1 ≤ cells) × (cells ≤ 2 ^ 20) }
     requires workers { (1 ≤ n) × (n ≤ 64) }
-    ensures ends { IfOk result (λ made. RunEnds query.now room n made.0) }
-    ensures noted { IfOk result (λ made. IsNoted cap n made.0 made.1) }
-    ensures run { IfOk result (λ made. IsRun query.now room cap n made.0 made.1) }
+    ensures ends { IfOk result (λ made. RunEnds query.now cells n made.0) }
+    ensures noted { IfOk result (λ made. IsNoted capacity n made.0 made.1) }
+    ensures run { IfOk result (λ made. IsRun query.now cells capacity n made.0 made.1) }
 {
     let mut note = RunNote::new();
-    let (engine, worker) = Engine::start_on(alloc, query, props, room, cap)?;
+    let (engine, worker) = Engine::start_on(alloc, query, props, cells, capacity)?;
     let outcome = run_crew(rt, alloc, engine, worker, n, gate, &mut note)?;
     Ok((outcome, note))
 }

@@ -44,12 +44,12 @@ none_more cells word high =
     omega (arith, counted, none)
 
 -- members and finished goals stand in different cells
-pub few_below : (m : Mem) (room : ℕ) → ((p : ℕ) → p < room → 2 ^ 63 ≤ m.head p → goal_bit ≤ m.cell p) → (n : ℕ)
-    → n ≤ room
+pub few_below : (m : Mem) (capacity : ℕ) → ((p : ℕ) → p < capacity → 2 ^ 63 ≤ m.head p → goal_bit ≤ m.cell p) → (n : ℕ)
+    → n ≤ capacity
     → members_in (cells_below m n) + length (finished_below m n) ≤ n
-few_below m room high zero few = omega arith
-few_below m room high (suc n) few =
-    let before = few_below m room high n (omega (arith, few)) in
+few_below m capacity high zero few = omega arith
+few_below m capacity high (suc n) few =
+    let before = few_below m capacity high n (omega (arith, few)) in
     let cells = cells_below m n in
     let finished = finished_below m n in
     by_head (λ l. members_in (cells_below m (suc n)) + length l ≤ suc n) (m.head n) finished (finished_at m n)
@@ -65,11 +65,11 @@ few_below m room high (suc n) few =
     (λ _. omega (arith, before, one_more cells (m.cell n))))
 
 -- where every cell is taken there are as many words as cells
-pub cells_all : (m : Mem) (room : ℕ) → ((p : ℕ) → p < room → m.cell p ≢ 0) → (n : ℕ) → n ≤ room
+pub cells_all : (m : Mem) (capacity : ℕ) → ((p : ℕ) → p < capacity → m.cell p ≢ 0) → (n : ℕ) → n ≤ capacity
     → length (cells_below m n) ≡ n
-cells_all m room taken zero few = refl
-cells_all m room taken (suc n) few =
-    let before = cells_all m room taken n (omega (arith, few)) in
+cells_all m capacity taken zero few = refl
+cells_all m capacity taken (suc n) few =
+    let before = cells_all m capacity taken n (omega (arith, few)) in
     by_cell (λ l. length l ≡ suc n) (m.cell n) (cells_below m n) (λ empty. absurd (taken n (omega (arith, few)) empty))
     (λ _. omega (arith, before, length-append (cells_below m n) (m.cell n ∷ [])))
 
@@ -89,8 +89,9 @@ found_enters q words word enter found =
     subst (IsEntry q) (at ∙ sym (eqb-true word x passes)) (enter k x within)
 
 -- different entries are at most as many as the entries of both lists
-pub fit_or_not : (q : Query) (cap : ℕ) (members goals : List ℕ) → FitsIn q cap members goals → HasMoreEntries q cap → ⊥
-fit_or_not q cap members goals fits has =
+pub fit_or_not : (q : Query) (capacity : ℕ) (members goals : List ℕ) → FitsIn q capacity members goals
+    → HasMoreEntries q capacity → ⊥
+fit_or_not q capacity members goals fits has =
     let listed = λ (word : ℕ) (found : list_any (nat_eq word) has.entries ≡ true).
     list_any-from_Contains nat_eq_equiv word (members ++ goals)
     (entry_listed q members goals fits.closure fits.all_goals word (found_enters q has.entries word has.enter found)) in

@@ -60,35 +60,37 @@ ascending : (xs ys : List ℕ) → IsPermutation xs ys → IsDistinct nat_eq xs 
 ascending xs ys same differ rise = IsStrictlyIncreasing-from_distinct ys rise
     (IsDistinct-IsPermutation nat_eq nat_eq_equiv.symm xs ys same differ)
 
-module _ (q : Query) (cap place : ℕ) (m : Mem) (done : List Ended) (closed : Closed)
-    (its : ReadsSearch q cap place m done closed) (has : HasFinishedRoot q closed) where
+module _ (q : Query) (capacity place : ℕ) (m : Mem) (done : List Ended) (closed : Closed)
+    (its : ReadsSearch q capacity place m done closed) (has : HasFinishedRoot q closed) where
   -- ---- the goals
 
   module _ (finished : List Finished) (same : IsPermutation (pairs_of closed.answers closed.who) finished) where
-    moved : IsPermutation (finished_below m cap) finished
+    moved : IsPermutation (finished_below m capacity) finished
     moved = subst (λ (l : List Finished). IsPermutation l finished) ((λ i. pairs_of (its.answers i) (its.who i))
-        ∙ pairs_below m cap) same
+        ∙ pairs_below m capacity) same
 
     -- what holds of each goal with a closed head holds of each in the list
-    each_goal : (Fact : Finished → Type 0) → ((p : ℕ) → p < cap → 2 ^ 63 ≤ m.head p → Fact (finished_at m p))
+    each_goal : (Fact : Finished → Type 0) → ((p : ℕ) → p < capacity → 2 ^ 63 ≤ m.head p → Fact (finished_at m p))
         → All Fact finished
-    each_goal Fact each = All-permutation Fact (finished_below m cap) finished moved (all_below m Fact cap each)
+    each_goal Fact each = All-permutation Fact (finished_below m capacity) finished moved
+        (all_below m Fact capacity each)
 
     goals_of_query : IsNonDecreasingBy goal_in finished → AreGoalsOf q (map goal_in finished)
     goals_of_query rise = record {
-      ascending = ascending (map goal_in (finished_below m cap)) (map goal_in finished)
-          (IsPermutation-map goal_in (finished_below m cap) finished moved)
-          (goals_differ m cap its.searched.cells.are_set (taken_at q cap m its.searched) cap (omega arith))
+      ascending = ascending (map goal_in (finished_below m capacity)) (map goal_in finished)
+          (IsPermutation-map goal_in (finished_below m capacity) finished moved)
+          (goals_differ m capacity its.searched.cells.are_set (taken_at q capacity m its.searched) capacity
+          (omega arith))
           (rising_words finished rise);
       sound = All-map (IsGoalWord q) goal_in finished
-          (each_goal (λ f. IsGoalWord q f.goal) (goal_at q cap m its.searched));
+          (each_goal (λ f. IsGoalWord q f.goal) (goal_at q capacity m its.searched));
       complete = λ goal is_goal.
-          let (p, near, some, at, head) = all_finished q cap m its.searched
-          (root_finished q cap place m done closed its has) goal is_goal in
+          let (p, near, some, at, head) = all_finished q capacity m its.searched
+          (root_finished q capacity place m done closed its has) goal is_goal in
           subst (Contains (map goal_in finished)) at
           (contains_map goal_in (finished_at m p) finished
-          (Contains-permutation (finished_below m cap) finished (finished_at m p) moved
-          (contains_below m cap p near head)));
+          (Contains-permutation (finished_below m capacity) finished (finished_at m p) moved
+          (contains_below m capacity p near head)));
     }
 
     answers_of_query : BestsFit q → GoalRequestsFit q → AreGoalsOf q (map goal_in finished)
@@ -103,7 +105,7 @@ module _ (q : Query) (cap place : ℕ) (m : Mem) (done : List Ended) (closed : C
     }
 
     -- the worker of a goal is that of the seat's record of it
-    finisher_at : (p : ℕ) → p < cap → 2 ^ 63 ≤ m.head p → IsFinisher m.cell done (m.cell p) (m.who p - 1)
+    finisher_at : (p : ℕ) → p < capacity → 2 ^ 63 ≤ m.head p → IsFinisher m.cell done (m.cell p) (m.who p - 1)
     finisher_at p near head =
         let (e, among, at, recorded) = its.finished_by p near head in
         let stored : m.who p ≡ e.worker + 1 = ap m.who (sym at) ∙ recorded.who_is in
@@ -124,30 +126,32 @@ module _ (q : Query) (cap place : ℕ) (m : Mem) (done : List Ended) (closed : C
 
   module _ (small : (e : ExprParts) → IsMember q e → FitsExpr (word_of e)) (members : List ℕ)
       (same : IsPermutation (filter is_member_word closed.cells) members) where
-    sorted : IsPermutation (filter is_member_word (cells_below m cap)) members
+    sorted : IsPermutation (filter is_member_word (cells_below m capacity)) members
     sorted = subst (λ (l : List ℕ). IsPermutation (filter is_member_word l) members) its.cells same
 
-    members_sound : All (IsMemberWord q) (filter is_member_word (cells_below m cap))
+    members_sound : All (IsMemberWord q) (filter is_member_word (cells_below m capacity))
     members_sound k d within =
-        let enters = All-filter is_member_word (IsEntry q) (cells_below m cap)
-        (all_cells m (IsEntry q) cap its.searched.cells.enter) k d within in
+        let enters = All-filter is_member_word (IsEntry q) (cells_below m capacity)
+        (all_cells m (IsEntry q) capacity its.searched.cells.enter) k d within in
         member_entry q _ enters (leb-false goal_bit _
-        (not-true _ (filter_passes is_member_word (cells_below m cap) k d within)))
+        (not-true _ (filter_passes is_member_word (cells_below m capacity) k d within)))
 
     closure : MembersAreAsked q → IsNonDecreasing members → IsClosureOf q members
     closure asked rise = record {
-      ascending = ascending (filter is_member_word (cells_below m cap)) members sorted
-          (distinct_filter is_member_word (cells_below m cap)
-          (cells_differ m cap its.searched.cells.are_set cap (omega arith))) rise;
-      sound = All-permutation (IsMemberWord q) (filter is_member_word (cells_below m cap)) members sorted members_sound;
+      ascending = ascending (filter is_member_word (cells_below m capacity)) members sorted
+          (distinct_filter is_member_word (cells_below m capacity)
+          (cells_differ m capacity its.searched.cells.are_set capacity (omega arith))) rise;
+      sound = All-permutation (IsMemberWord q) (filter is_member_word (cells_below m capacity)) members sorted
+          members_sound;
       complete = λ e member.
-          let (p, near, some, at) = all_stand q cap m its.searched (root_finished q cap place m done closed its has)
+          let (p, near, some, at) = all_stand q capacity m its.searched
+          (root_finished q capacity place m done closed its has)
           asked e member in
           let low = small e member in
-          let there = subst (Contains (cells_below m cap)) at
-          (contains_cell m cap p near (λ empty. some (sym at ∙ empty))) in
-          Contains-permutation (filter is_member_word (cells_below m cap)) members (word_of e) sorted
-          (contains_filter is_member_word (word_of e) (cells_below m cap)
+          let there = subst (Contains (cells_below m capacity)) at
+          (contains_cell m capacity p near (λ empty. some (sym at ∙ empty))) in
+          Contains-permutation (filter is_member_word (cells_below m capacity)) members (word_of e) sorted
+          (contains_filter is_member_word (word_of e) (cells_below m capacity)
           (ap not (lt-leb goal_bit (word_of e) (omega (arith, low)))) there);
     }
 
@@ -156,14 +160,14 @@ module _ (q : Query) (cap place : ℕ) (m : Mem) (done : List Ended) (closed : C
   pub is_done : BestsFit q → GoalRequestsFit q → MembersAreAsked q
       → ((e : ExprParts) → IsMember q e → FitsExpr (word_of e))
       → (members goals : List ℕ) (answers : List Answered) (who : List ℕ) → IsOrdered closed members goals answers who
-      → IsDone q cap m.cell done members goals answers who
+      → IsDone q capacity m.cell done members goals answers who
   is_done fit requests asked small members goals answers who ordered =
       let finished = ordered.finished in
       let all_goals = goals_of_query finished ordered.same ordered.ascending in
       let all_answers = answers_of_query finished ordered.same fit requests all_goals in
-      let few = few_below m cap (high_at q cap m its.searched) cap (omega arith) in
-      let as_many = length_permutation (finished_below m cap) finished (moved finished ordered.same) in
-      let as_many_members = length_permutation (filter is_member_word (cells_below m cap)) members
+      let few = few_below m capacity (high_at q capacity m its.searched) capacity (omega arith) in
+      let as_many = length_permutation (finished_below m capacity) finished (moved finished ordered.same) in
+      let as_many_members = length_permutation (filter is_member_word (cells_below m capacity)) members
       (sorted small members ordered.same_members) in
       let as_many_goals = ap length ordered.goals_are ∙ length-map finished goal_in in
       record {

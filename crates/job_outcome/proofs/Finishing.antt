@@ -20,18 +20,19 @@ use Rattle.board_rule.specs.Rule.{AreCells, IsFinished, KeepsPromises, Stands}
 pub goal_word_high : (q : Query) (word : ℕ) → IsGoalWord q word → goal_bit ≤ word
 goal_word_high q word (goal, names) = subst (λ (x : ℕ). goal_bit ≤ x) names.number (goal_high goal)
 
-module _ (q : Query) (room : ℕ) (m : Mem) where
+module _ (q : Query) (capacity : ℕ) (m : Mem) where
   -- the words of the query's search
   pub record Searched : Type 0 where
-    pub cells : AreCells (meaning_of q) room m.cell
-    pub promises : KeepsPromises (meaning_of q) room m.cell m.head m.cost m.node
+    pub cells : AreCells (meaning_of q) capacity m.cell
+    pub promises : KeepsPromises (meaning_of q) capacity m.cell m.head m.cost m.node
 
   abbrev pub Finishes : GoalKind → Type 0
-  Finishes goal = IsFinished (meaning_of q) room m.cell m.head (goal_word goal)
+  Finishes goal = IsFinished (meaning_of q) capacity m.cell m.head (goal_word goal)
 
-module _ (q : Query) (room : ℕ) (m : Mem) (its : Searched q room m) where
+module _ (q : Query) (capacity : ℕ) (m : Mem) (its : Searched q capacity m) where
   -- a finished goal's children are finished
-  pub all_finished : Finishes q room m (root_goal_of q) → (goal : GoalKind) → IsGoal q goal → Finishes q room m goal
+  pub all_finished : Finishes q capacity m (root_goal_of q) → (goal : GoalKind) → IsGoal q goal
+      → Finishes q capacity m goal
   all_finished root _ root_goal = root
   all_finished root _ (child_goal goal child is_goal is_child) =
       let (p, near, some, at, closed) = all_finished root goal is_goal in
@@ -45,8 +46,8 @@ module _ (q : Query) (room : ℕ) (m : Mem) (its : Searched q room m) where
       })
 
   -- each member is asked for by a finished goal
-  pub all_stand : Finishes q room m (root_goal_of q) → MembersAreAsked q → (e : ExprParts) → IsMember q e
-      → Stands (meaning_of q) room m.cell (word_of e)
+  pub all_stand : Finishes q capacity m (root_goal_of q) → MembersAreAsked q → (e : ExprParts) → IsMember q e
+      → Stands (meaning_of q) capacity m.cell (word_of e)
   all_stand root asked e member =
       let (is_goal, asks) = asked e member in
       let (p, near, some, at, closed) = all_finished root (Imp e.group) is_goal in
@@ -60,13 +61,13 @@ module _ (q : Query) (room : ℕ) (m : Mem) (its : Searched q room m) where
       })
 
   -- a closed head is that of a goal of the query
-  pub goal_at : (p : ℕ) → p < room → 2 ^ 63 ≤ m.head p → IsGoalWord q (m.cell p)
+  pub goal_at : (p : ℕ) → p < capacity → 2 ^ 63 ≤ m.head p → IsGoalWord q (m.cell p)
   goal_at p near closed = let answer = its.promises.answer p near closed in (answer.goal, answer.names)
 
-  pub high_at : (p : ℕ) → p < room → 2 ^ 63 ≤ m.head p → goal_bit ≤ m.cell p
+  pub high_at : (p : ℕ) → p < capacity → 2 ^ 63 ≤ m.head p → goal_bit ≤ m.cell p
   high_at p near closed = goal_word_high q (m.cell p) (goal_at p near closed)
 
-  pub taken_at : (p : ℕ) → p < room → 2 ^ 63 ≤ m.head p → m.cell p ≢ 0
+  pub taken_at : (p : ℕ) → p < capacity → 2 ^ 63 ≤ m.head p → m.cell p ≢ 0
   taken_at p near closed empty = absurd (omega (arith, empty, high_at p near closed))
 
 -- an entry below the words of goals is a member's

@@ -171,12 +171,12 @@ contains_below m (suc n) p within closed =
     ]
 
 -- they differ, as no word stands in two cells
-pub goals_differ : (m : Mem) (room : ℕ) → IsWordSet room m.cell
-    → ((p : ℕ) → p < room → 2 ^ 63 ≤ m.head p → m.cell p ≢ 0) → (n : ℕ) → n ≤ room
+pub goals_differ : (m : Mem) (capacity : ℕ) → IsWordSet capacity m.cell
+    → ((p : ℕ) → p < capacity → 2 ^ 63 ≤ m.head p → m.cell p ≢ 0) → (n : ℕ) → n ≤ capacity
     → IsDistinct nat_eq (map goal_in (finished_below m n))
-goals_differ m room set taken zero few = distinct_nil
-goals_differ m room set taken (suc n) few =
-    let before = goals_differ m room set taken n (omega (arith, few)) in
+goals_differ m capacity set taken zero few = distinct_nil
+goals_differ m capacity set taken (suc n) few =
+    let before = goals_differ m capacity set taken n (omega (arith, few)) in
     let apart = λ (p : ℕ) (within : p < n) (closed : 2 ^ 63 ≤ m.head p). ne_eqb (m.cell n) (m.cell p)
     (λ same. absurd (omega (
       arith,
@@ -215,11 +215,11 @@ contains_cell m (suc n) p within taken =
           (Contains-push (cells_below m n) (m.cell n)))
     ]
 
-pub cells_differ : (m : Mem) (room : ℕ) → IsWordSet room m.cell → (n : ℕ) → n ≤ room
+pub cells_differ : (m : Mem) (capacity : ℕ) → IsWordSet capacity m.cell → (n : ℕ) → n ≤ capacity
     → IsDistinct nat_eq (cells_below m n)
-cells_differ m room set zero few = distinct_nil
-cells_differ m room set (suc n) few =
-    let before = cells_differ m room set n (omega (arith, few)) in
+cells_differ m capacity set zero few = distinct_nil
+cells_differ m capacity set (suc n) few =
+    let before = cells_differ m capacity set n (omega (arith, few)) in
     let apart = λ (p : ℕ) (within : p < n) (taken : m.cell p ≢ 0). ne_eqb (m.cell n) (m.cell p)
     (λ same. absurd (omega (
       arith,

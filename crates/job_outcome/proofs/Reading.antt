@@ -27,18 +27,19 @@ use Rattle.job_outcome.proofs.Finishing.{Finishes, Searched}
 use Rattle.std.proofs.lemmas.List.Elements.{All-contains}
 
 -- what the last words of the board say, and what was read of them
-pub record ReadsSearch (q : Query) (cap place : ℕ) (m : Mem) (done : List Ended) (closed : Closed) : Type 0 where
-  pub searched : Searched q cap m
-  pub near : place < cap
+pub record ReadsSearch (q : Query) (capacity place : ℕ) (m : Mem) (done : List Ended) (closed : Closed) : Type 0 where
+  pub searched : Searched q capacity m
+  pub near : place < capacity
   pub root : m.cell place ≡ goal_word (root_goal_of q)
-  pub full : closed.full ≡ true → IsFull (meaning_of q) cap m.cell
-  pub none_ready : closed.ready ≡ None → (p : ℕ) → p < cap → HoldsGoal (meaning_of q) cap m.cell p → 2 ^ 63 ≤ m.head p
-  pub finished_by : (p : ℕ) → p < cap → 2 ^ 63 ≤ m.head p → (e : Ended) × Among done e × (e.place ≡ p)
-      × IsRecorded cap m.head m.cost m.node m.who e
-  pub cells : closed.cells ≡ cells_below m cap
-  pub answers : closed.answers ≡ answers_below m cap
-  pub who : closed.who ≡ who_below m cap
-  pub ready : IsFirstReady (meaning_of q) m cap closed.ready
+  pub full : closed.full ≡ true → IsFull (meaning_of q) capacity m.cell
+  pub none_ready : closed.ready ≡ None → (p : ℕ) → p < capacity → HoldsGoal (meaning_of q) capacity m.cell p
+      → 2 ^ 63 ≤ m.head p
+  pub finished_by : (p : ℕ) → p < capacity → 2 ^ 63 ≤ m.head p → (e : Ended) × Among done e × (e.place ≡ p)
+      × IsRecorded capacity m.head m.cost m.node m.who e
+  pub cells : closed.cells ≡ cells_below m capacity
+  pub answers : closed.answers ≡ answers_below m capacity
+  pub who : closed.who ≡ who_below m capacity
+  pub ready : IsFirstReady (meaning_of q) m capacity closed.ready
 
 -- a head that is later than a closed one is closed
 later : (found now : ℕ) → 2 ^ 63 ≤ found → IsLater found now → 2 ^ 63 ≤ now
@@ -50,30 +51,31 @@ later found now closed (inr (inr (low, more))) = absurd (omega (arith, low, clos
 pub goal_some : (q : Query) → goal_word (root_goal_of q) ≢ 0
 goal_some q none = absurd (omega (arith, none, goal_high (root_goal_of q)))
 
-module _ (q : Query) (cap place : ℕ) (v : Hands Rules) (closed : Closed) (its : ClosesSearch q cap place v closed) where
+module _ (q : Query) (capacity place : ℕ) (v : Hands Rules) (closed : Closed)
+    (its : ClosesSearch q capacity place v closed) where
   stays : Stays (mem its.closes.words).cell (mem its.closes.words).head (mem its.closes.words).full v.looks
   stays = (its.closes.sound.by_kinds.hands its.closes.id v its.closes.mine).stays
 
-  pub reads_search : ReadsSearch q cap place (mem its.closes.words) v.done closed
+  pub reads_search : ReadsSearch q capacity place (mem its.closes.words) v.done closed
   reads_search =
       let m = mem its.closes.words in
       let by_kinds = its.closes.sound.by_kinds in
       let same = its.its_query in
       record {
         searched = record {
-          cells = subst (λ (x : Query). AreCells (meaning_of x) cap m.cell) same by_kinds.cells;
-          promises = subst (λ (x : Query). KeepsPromises (meaning_of x) cap m.cell m.head m.cost m.node) same
+          cells = subst (λ (x : Query). AreCells (meaning_of x) capacity m.cell) same by_kinds.cells;
+          promises = subst (λ (x : Query). KeepsPromises (meaning_of x) capacity m.cell m.head m.cost m.node) same
               by_kinds.promises;
         };
         near = its.near;
         root = stays.cells place (goal_word (root_goal_of q)) its.root (goal_some q);
-        full = λ full. subst (λ (x : Query). IsFull (meaning_of x) cap m.cell) same (its.closes.left_out full);
+        full = λ full. subst (λ (x : Query). IsFull (meaning_of x) capacity m.cell) same (its.closes.left_out full);
         none_ready = its.closes.none_ready;
         finished_by = its.closes.finished_by;
         cells = its.closes.reads.cells;
         answers = its.closes.reads.answers;
         who = its.closes.reads.who;
-        ready = subst (λ (x : Query). IsFirstReady (meaning_of x) m cap closed.ready) same its.closes.reads.ready;
+        ready = subst (λ (x : Query). IsFirstReady (meaning_of x) m capacity closed.ready) same its.closes.reads.ready;
       }
 
   -- a head that was found closed is closed
@@ -81,35 +83,35 @@ module _ (q : Query) (cap place : ℕ) (v : Hands Rules) (closed : Closed) (its 
   shown_closed (found, looked, closed_then) =
       later found ((mem its.closes.words).head place) closed_then (stays.heads place found looked)
 
-module _ (q : Query) (cap place : ℕ) (m : Mem) (done : List Ended) (closed : Closed)
-    (its : ReadsSearch q cap place m done closed) where
+module _ (q : Query) (capacity place : ℕ) (m : Mem) (done : List Ended) (closed : Closed)
+    (its : ReadsSearch q capacity place m done closed) where
   -- the goals that were read are those of the finished ones
-  pub goals_read : map (λ (x : ℕ × Answer). x.0) closed.answers ≡ map goal_in (finished_below m cap)
-  goals_read = ap (map (λ (x : ℕ × Answer). x.0)) its.answers ∙ goals_below m cap
+  pub goals_read : map (λ (x : ℕ × Answer). x.0) closed.answers ≡ map goal_in (finished_below m capacity)
+  goals_read = ap (map (λ (x : ℕ × Answer). x.0)) its.answers ∙ goals_below m capacity
 
   -- and there are as many workers
   pub as_many_workers : length closed.who ≡ length closed.answers
-  as_many_workers = ap length its.who ∙ sym (lengths_below m cap) ∙ sym (ap length its.answers)
+  as_many_workers = ap length its.who ∙ sym (lengths_below m capacity) ∙ sym (ap length its.answers)
 
   abbrev IsPlaced : Finished → Type 0
-  IsPlaced f = (p : ℕ) × (p < cap) × (2 ^ 63 ≤ m.head p) × (f.goal ≡ m.cell p)
+  IsPlaced f = (p : ℕ) × (p < capacity) × (2 ^ 63 ≤ m.head p) × (f.goal ≡ m.cell p)
 
   -- where the root's goal is among them it is finished
-  pub root_finished : HasFinishedRoot q closed → Finishes q cap m (root_goal_of q)
+  pub root_finished : HasFinishedRoot q closed → Finishes q capacity m (root_goal_of q)
   root_finished has =
-      let (f, there, is) = contains_unmap goal_in (goal_word (root_goal_of q)) (finished_below m cap)
+      let (f, there, is) = contains_unmap goal_in (goal_word (root_goal_of q)) (finished_below m capacity)
       (subst (λ (l : List ℕ). Contains l (goal_word (root_goal_of q))) goals_read has) in
-      let (p, near, head, at) = All-contains IsPlaced (finished_below m cap) f
-      (all_below m IsPlaced cap (λ p near head. (p, near, head, refl))) there in
+      let (p, near, head, at) = All-contains IsPlaced (finished_below m capacity) f
+      (all_below m IsPlaced capacity (λ p near head. (p, near, head, refl))) there in
       (p, near, goal_some q, sym at ∙ is, head)
 
   -- and it is among them where its head is closed
   pub finished_root : 2 ^ 63 ≤ m.head place → HasFinishedRoot q closed
   finished_root head =
       subst (λ (l : List ℕ). Contains l (goal_word (root_goal_of q))) (sym goals_read)
-      (subst (Contains (map goal_in (finished_below m cap))) its.root
-      (contains_map goal_in (finished_at m place) (finished_below m cap)
-      (contains_below m cap place its.near head)))
+      (subst (Contains (map goal_in (finished_below m capacity))) its.root
+      (contains_map goal_in (finished_at m place) (finished_below m capacity)
+      (contains_below m capacity place its.near head)))
 
   -- as where no goal is ready
   pub none_left : closed.ready ≡ None → HasFinishedRoot q closed

@@ -40,5 +40,5 @@ pub record IsOrdered (closed : Closed) (members goals : List ℕ) (answers : Lis
 
 abbrev pub Orders : Closed → Outcome → Type 0
 Orders closed (Done members goals answers who) = IsOrdered closed members goals answers.list who
-Orders closed (Full room) = ⊥
+Orders closed (Full told) = ⊥
 Orders closed (Unfinished goal) = ⊥

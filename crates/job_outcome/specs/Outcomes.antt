@@ -25,27 +25,27 @@ use Rattle.job_outcome.specs.declared.outcome.Outcome.TheVariants.{Done, Full, U
 -- ---- how many entries a query has
 
 -- different entries that are more than the capacity
-pub record HasMoreEntries (q : Query) (cap : ℕ) : Type 0 where
+pub record HasMoreEntries (q : Query) (capacity : ℕ) : Type 0 where
   pub entries : List ℕ
   pub enter : All (IsEntry q) entries
   pub differ : IsDistinct nat_eq entries
-  pub more : cap < length entries
+  pub more : capacity < length entries
 
 -- the lists of all members and of all goals, together not more than the capacity
-pub record FitsIn (q : Query) (cap : ℕ) (members goals : List ℕ) : Type 0 where
+pub record FitsIn (q : Query) (capacity : ℕ) (members goals : List ℕ) : Type 0 where
   pub closure : IsClosureOf q members
   pub all_goals : AreGoalsOf q goals
-  pub few : length members + length goals ≤ cap
+  pub few : length members + length goals ≤ capacity
 
 -- ---- the board of a query's search
 
 -- a seat with these hands closed the board of the query's search, which has that many cells; its looks show the root's
 -- goal
-pub record ClosesSearch (q : Query) (cap place : ℕ) (v : Hands Rules) (closed : Closed) : Type 0 where
+pub record ClosesSearch (q : Query) (capacity place : ℕ) (v : Hands Rules) (closed : Closed) : Type 0 where
   pub rules : Rules
   pub its_query : rules.query.now ≡ q
-  pub closes : ClosesWith (λ (r : Rules). meaning_of r.query.now) rules cap v closed
-  pub near : place < cap
+  pub closes : ClosesWith (λ (r : Rules). meaning_of r.query.now) rules capacity v closed
+  pub near : place < capacity
   pub root : Looked v.looks (cell_word place) (goal_word (root_goal_of q))
 
 -- the goal is one of those with answers
@@ -75,9 +75,9 @@ abbrev pub AreFinishers : (cell : ℕ → ℕ) → (done : List Ended) → (goal
 AreFinishers cell done = AllZip (IsFinisher cell done)
 
 -- all members, all goals, which are as many as fit, the answers to all goals and who finished them, in one order
-pub record IsDone (q : Query) (cap : ℕ) (cell : ℕ → ℕ) (done : List Ended)
+pub record IsDone (q : Query) (capacity : ℕ) (cell : ℕ → ℕ) (done : List Ended)
     (members goals : List ℕ) (answers : List Answered) (who : List ℕ) : Type 0 where
-  pub fits : FitsIn q cap members goals
+  pub fits : FitsIn q capacity members goals
   pub are_answers : AreAnswers q answers
   pub in_order : words_told answers ≡ goals
   pub finishers : AreFinishers cell done goals who
@@ -85,43 +85,43 @@ pub record IsDone (q : Query) (cap : ℕ) (cell : ℕ → ℕ) (done : List Ende
 -- the root's goal is finished, and the board wasn't full
 pub record IsFinished (q : Query) (closed : Closed) : Type 0 where
   pub root : HasFinishedRoot q closed
-  pub some_room : closed.full ≡ false
+  pub not_full : closed.full ≡ false
 
 -- the root's goal isn't finished, and the board was full: the query has more entries than cells
-pub record IsFullFor (q : Query) (cap : ℕ) (closed : Closed) (room : ℕ) : Type 0 where
+pub record IsFullFor (q : Query) (capacity : ℕ) (closed : Closed) (told : ℕ) : Type 0 where
   pub open_root : HasFinishedRoot q closed → ⊥
   pub full : closed.full ≡ true
-  pub capacity : room ≡ cap
-  pub more : HasMoreEntries q cap
+  pub same : told ≡ capacity
+  pub more : HasMoreEntries q capacity
 
 -- the root's goal isn't finished, the board wasn't full, and this goal is ready
 pub record IsUnfinished (q : Query) (closed : Closed) (goal : ℕ) : Type 0 where
   pub open_root : HasFinishedRoot q closed → ⊥
-  pub some_room : closed.full ≡ false
+  pub not_full : closed.full ≡ false
   pub is_ready : closed.ready ≡ Some goal
   pub is_goal : IsGoalWord q goal
 
 -- what the search gave: the board was full exactly where this says so
-abbrev pub IsOutcome : Query → (cap : ℕ) → (cell : ℕ → ℕ) → (done : List Ended) → Closed → Outcome → Type 0
-IsOutcome q cap cell done closed (Done members goals answers who) =
-    IsFinished q closed × IsDone q cap cell done members goals answers.list who
-IsOutcome q cap cell done closed (Full room) = IsFullFor q cap closed room
-IsOutcome q cap cell done closed (Unfinished goal) = IsUnfinished q closed goal
+abbrev pub IsOutcome : Query → (capacity : ℕ) → (cell : ℕ → ℕ) → (done : List Ended) → Closed → Outcome → Type 0
+IsOutcome q capacity cell done closed (Done members goals answers who) =
+    IsFinished q closed × IsDone q capacity cell done members goals answers.list who
+IsOutcome q capacity cell done closed (Full told) = IsFullFor q capacity closed told
+IsOutcome q capacity cell done closed (Unfinished goal) = IsUnfinished q closed goal
 
 -- all goals are finished
 abbrev pub IsDoneCase : Outcome → Type 0
 IsDoneCase (Done members goals answers who) = ⊤
-IsDoneCase (Full room) = ⊥
+IsDoneCase (Full told) = ⊥
 IsDoneCase (Unfinished goal) = ⊥
 
 -- the board was full
 abbrev pub IsFullCase : Outcome → Type 0
 IsFullCase (Done members goals answers who) = ⊥
-IsFullCase (Full room) = ⊤
+IsFullCase (Full told) = ⊤
 IsFullCase (Unfinished goal) = ⊥
 
 -- nothing is left to do
 abbrev pub IsEnd : Outcome → Type 0
 IsEnd (Done members goals answers who) = ⊤
-IsEnd (Full room) = ⊤
+IsEnd (Full told) = ⊤
 IsEnd (Unfinished goal) = ⊥

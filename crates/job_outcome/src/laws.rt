@@ -9,8 +9,8 @@ ghost use Rattle.job_outcome.specs.Outcomes.{HasMoreEntries, FitsIn, AreFinisher
 
 /// A query whose entries fit in the capacity has no more than that.
 pub fn entries_fit_or_not()
-    ensures { (q : Query) (cap : ℕ) (members goals : List ℕ) →
-        FitsIn q cap members goals → HasMoreEntries q cap → ⊥ }
+    ensures { (q : Query) (capacity : ℕ) (members goals : List ℕ) →
+        FitsIn q capacity members goals → HasMoreEntries q capacity → ⊥ }
 {}
 
 /// There is one worker for each goal, and it is one of those that the seat has in its list.

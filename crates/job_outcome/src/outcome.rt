@@ -37,7 +37,7 @@ pub enum Outcome {
     },
     /// The query has more entries than the board has cells.
     Full {
-        cap: u32,
+        capacity: u32,
     },
     /// The search was ended before, when this goal was ready.
     Unfinished {
@@ -50,22 +50,22 @@ pub fn outcome_of(
     alloc: Global,
     query: &Query,
     root: Goal,
-    cap: u32,
+    capacity: u32,
     closed: Closed,
 ) -> Result<Outcome, AllocError>
-    requires closed { (place : ℕ) × (v : Hands Rules) × ClosesSearch query.now cap place v closed }
+    requires closed { (place : ℕ) × (v : Hands Rules) × ClosesSearch query.now capacity place v closed }
     requires root { root.0 ≡ goal_word (root_goal_of query.now) }
 
     // What it is, by whichever seat closed the board.
     ensures outcome { IfOk result (λ outcome. (place : ℕ) (v : Hands Rules)
-        (its : ClosesSearch query.now cap place v closed) →
-        IsOutcome query.now cap (mem its.closes.words).cell v.done closed outcome) }
+        (its : ClosesSearch query.now capacity place v closed) →
+        IsOutcome query.now capacity (mem its.closes.words).cell v.done closed outcome) }
 
     // What that seat saw.
     ensures finished { IfOk result (λ outcome. (place : ℕ) (v : Hands Rules) →
-        ClosesSearch query.now cap place v closed → ShowsClosed v.looks place → IsDoneCase outcome) }
+        ClosesSearch query.now capacity place v closed → ShowsClosed v.looks place → IsDoneCase outcome) }
     ensures full { IfOk result (λ outcome. (place : ℕ) (v : Hands Rules) →
-        ClosesSearch query.now cap place v closed → ShowsFull v.looks → IsFullCase outcome) }
+        ClosesSearch query.now capacity place v closed → ShowsFull v.looks → IsFullCase outcome) }
 {
     // For the proof: what finished goals promise, members and goals by their words, and what plans cost.
     goals_are_known();
@@ -76,7 +76,7 @@ pub fn outcome_of(
         return done(alloc, &closed);
     }
     if closed.full {
-        return Ok(Outcome::Full { cap });
+        return Ok(Outcome::Full { capacity });
     }
     match closed.ready {
         Some(ready) => Ok(Outcome::Unfinished { ready }),

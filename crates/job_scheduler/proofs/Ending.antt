@@ -9,10 +9,10 @@ use Rattle.job_scheduler.specs.declared.stepped.Stepped.{Stepped}
 use Rattle.job_scheduler.specs.declared.stepped.Stepped.TheVariants as stepped
 use Rattle.job_scheduler.proofs.Looking.{closed_later, full_later}
 
-module _ {R : Type 0} (meaning : Meaning) (room root number n : ℕ) where
+module _ {R : Type 0} (meaning : Meaning) (capacity root number n : ℕ) where
   -- what a step adds to what its worker finished has its worker's number
   pub done_below : (v : Hands R) (result : Stepped) (w : Hands R) → number < n
-      → Steps meaning room root number v result w → AreDoneBelow n v.done → AreDoneBelow n w.done
+      → Steps meaning capacity root number v result w → AreDoneBelow n v.done → AreDoneBelow n w.done
   done_below v stepped.Ran w small t below =
       ⊎_elim (λ (f : FinishesOne v w number t.place). subst (AreDoneBelow n) (sym f.done) (small, below))
       (λ (f : SuspendsOne v w t.place). subst (AreDoneBelow n) (sym f.done) below) t.ends
@@ -23,19 +23,21 @@ module _ {R : Type 0} (meaning : Meaning) (room root number n : ℕ) where
   done_below v stepped.Full w small t below = subst (AreDoneBelow n) (sym t.runs_out.done) below
 
   -- a step that is done, or full, shows the end
-  pub done_ends : (v w : Hands R) → Steps meaning room root number v stepped.Done w → ShowsEnd w.looks root
+  pub done_ends : (v w : Hands R) → Steps meaning capacity root number v stepped.Done w → ShowsEnd w.looks root
   done_ends v w t = inl (subst (λ (h : Hands R). ShowsClosed h.looks root) (sym t.looks.hands_are)
       (closed_later t.looks.more v.looks root t.closed))
 
-  pub full_ends : (v w : Hands R) → Steps meaning room root number v stepped.Full w → ShowsEnd w.looks root
+  pub full_ends : (v w : Hands R) → Steps meaning capacity root number v stepped.Full w → ShowsEnd w.looks root
   full_ends v w t = inr (subst (λ looks. ShowsFull looks) (sym t.runs_out.looks)
       (full_later t.runs_out.more v.looks t.runs_out.full))
 
 -- less is left to do
-pub less_left : (meaning : Meaning) (room : ℕ) (before after : Option (List ℕ)) (kept words : List ℕ)
+pub less_left : (meaning : Meaning) (capacity : ℕ) (before after : Option (List ℕ)) (kept words : List ℕ)
     → before ≡ Some kept → after ≡ Some words
-    → work_left meaning room words < work_left meaning room kept
-    → work_alone_left meaning room after < work_alone_left meaning room before
-less_left meaning room before after kept words was is less =
-    subst (λ (b : Option (List ℕ)). work_alone_left meaning room after < work_alone_left meaning room b) (sym was)
-    (subst (λ (a : Option (List ℕ)). work_alone_left meaning room a < work_left meaning room kept) (sym is) less)
+    → work_left meaning capacity words < work_left meaning capacity kept
+    → work_alone_left meaning capacity after < work_alone_left meaning capacity before
+less_left meaning capacity before after kept words was is less =
+    subst (λ (b : Option (List ℕ)). work_alone_left meaning capacity after < work_alone_left meaning capacity b)
+    (sym was)
+    (subst (λ (a : Option (List ℕ)). work_alone_left meaning capacity a < work_left meaning capacity kept) (sym is)
+    less)

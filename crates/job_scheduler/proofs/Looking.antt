@@ -99,8 +99,8 @@ module _ {R : Type 0} where
   -- a worker that made further looks, or kept those that it had, and is otherwise the same
   pub worker_after : (meaning_of : R → Meaning) (b : Board R) (root goal : ℕ) (v w : Worker R)
       → IsWorkerOf meaning_of b root goal v
-      → IsSeatOf meaning_of b w.seat → Later (hands v.seat).looks (hands w.seat).looks → w.hints ≡ b.key.room
-      → w.next ≤ b.key.room → w.number ≡ v.number
+      → IsSeatOf meaning_of b w.seat → Later (hands v.seat).looks (hands w.seat).looks → w.hints ≡ b.setup.capacity
+      → w.next ≤ b.setup.capacity → w.number ≡ v.number
       → IsWorkerOf meaning_of b root goal w
   worker_after meaning_of b root goal v w its seat later hints next number = record {
     seat = seat;

@@ -24,36 +24,39 @@ use Rattle.job_scheduler.proofs.Looking.{busy_later, open_earlier, full_later, l
 use Rattle.job_scheduler.proofs.Finding.{claims_later}
 
 -- a turn that advances leaves less to do than there was before the claim
-pub advances_less : (meaning : Meaning) (room : ℕ) (before middle after : List ℕ)
-    → CountsClaim meaning room before middle → Advances meaning room middle after
-    → work_left meaning room after < work_left meaning room before
-advances_less meaning room before middle after c (finishes fewer same) =
-    let few = number_at_most (has_ready meaning (mem after)) room in
-    let less : (open_count room after + empty_count room after + 1) * (room + 1) ≤ (open_count room before + empty_count
-    room before) * (room + 1) =
-    mul-le-mul_right (room + 1) (omega (arith, c.same_empty, c.same_open, fewer, same)) in
+pub advances_less : (meaning : Meaning) (capacity : ℕ) (before middle after : List ℕ)
+    → CountsClaim meaning capacity before middle → Advances meaning capacity middle after
+    → work_left meaning capacity after < work_left meaning capacity before
+advances_less meaning capacity before middle after c (finishes fewer same) =
+    let few = number_at_most (has_ready meaning (mem after)) capacity in
+    let less : (open_count capacity after + empty_count capacity after + 1) *
+    (capacity + 1) ≤ (open_count capacity before + empty_count
+    capacity before) * (capacity + 1) =
+    mul-le-mul_right (capacity + 1) (omega (arith, c.same_empty, c.same_open, fewer, same)) in
     omega (arith, less, few)
-advances_less meaning room before middle after c (fills same fewer) =
-    let few = number_at_most (has_ready meaning (mem after)) room in
-    let less : (open_count room after + empty_count room after + 1) * (room + 1) ≤ (open_count room before + empty_count
-    room before) * (room + 1) =
-    mul-le-mul_right (room + 1) (omega (arith, c.same_empty, c.same_open, fewer, same)) in
+advances_less meaning capacity before middle after c (fills same fewer) =
+    let few = number_at_most (has_ready meaning (mem after)) capacity in
+    let less : (open_count capacity after + empty_count capacity after + 1) *
+    (capacity + 1) ≤ (open_count capacity before + empty_count
+    capacity before) * (capacity + 1) =
+    mul-le-mul_right (capacity + 1) (omega (arith, c.same_empty, c.same_open, fewer, same)) in
     omega (arith, less, few)
-advances_less meaning room before middle after c (waits same same_empty same_ready) =
-    let less : (open_count room after + empty_count room after) * (room + 1) ≤ (open_count room before + empty_count
-    room before) * (room + 1) =
-    mul-le-mul_right (room + 1) (omega (arith, c.same_empty, c.same_open, same, same_empty)) in
+advances_less meaning capacity before middle after c (waits same same_empty same_ready) =
+    let less : (open_count capacity after + empty_count capacity after) *
+    (capacity + 1) ≤ (open_count capacity before + empty_count
+    capacity before) * (capacity + 1) =
+    mul-le-mul_right (capacity + 1) (omega (arith, c.same_empty, c.same_open, same, same_empty)) in
     omega (arith, less, c.fewer_ready, same_ready)
 
 -- what was found busy isn't ready in the words that were kept
-busy_unready : (meaning : Meaning) (room : ℕ) (kept : List ℕ) (looks : List (ℕ × ℕ)) (at : ℕ)
+busy_unready : (meaning : Meaning) (capacity : ℕ) (kept : List ℕ) (looks : List (ℕ × ℕ)) (at : ℕ)
     → ((word value : ℕ) → Looked looks word value → slice_index kept word ≡ value) → ShowsBusy meaning looks at
-    → IsReadyIn meaning room kept at → ⊥
-busy_unready meaning room kept looks at agrees (inl (word, look, none)) ready =
+    → IsReadyIn meaning capacity kept at → ⊥
+busy_unready meaning capacity kept looks at agrees (inl (word, look, none)) ready =
     let is : slice_index kept (cell_word at) ≡ word = agrees (cell_word at) word look in
     ⊎_elim (λ (e : word ≡ 0). ready.some_goal (is ∙ e))
     (λ (e : meaning.goal word ≡ false). true≢false (sym ready.is_goal ∙ (ap meaning.goal is ∙ e))) none
-busy_unready meaning room kept looks at agrees (inr t) ready =
+busy_unready meaning capacity kept looks at agrees (inr t) ready =
     let look : Looked looks (run_word at) t.run =
     subst (λ (l : List (ℕ × ℕ)). Looked l (run_word at) t.run) (sym t.split)
     (looked_later t.later t.earlier (run_word at) t.run t.found) in
@@ -76,9 +79,9 @@ module _ {R : Type 0} where
   pub looked_free : (v w : Hands R) → OnlyLooked v w → v.rights ≡ [] → w.rights ≡ []
   looked_free v w a free = ap (λ (h : Hands R). h.rights) a.hands_are ∙ free
 
-module _ {R : Type 0} (meaning : Meaning) (room : ℕ) where
+module _ {R : Type 0} (meaning : Meaning) (capacity : ℕ) where
   -- what a claim leaves as it was, and what it adds
-  module _ (u : Hands R) (right : Right) (v : Hands R) (t : LooksAndClaims meaning room u right v) where
+  module _ (u : Hands R) (right : Right) (v : Hands R) (t : LooksAndClaims meaning capacity u right v) where
     pub claim_only : u.rights ≡ [] → v.rights ≡ fresh_right right.place ∷ []
     claim_only free = ap (λ (h : Hands R). h.rights) t.claims.hands_are
         ∙ (ap (λ (h : Hands R). fresh_right right.place ∷ h.rights) t.looks.hands_are
@@ -112,7 +115,7 @@ module _ {R : Type 0} (meaning : Meaning) (room : ℕ) where
     -- of the words that a seat keeps while it is alone, one ready goal less is ready
     pub claim_alone : (kept : List ℕ) → u.alone ≡ Some kept
         → (v.alone ≡ Some (slice_set kept (run_word right.place) 256))
-        × CountsClaim meaning room kept (slice_set kept (run_word right.place) 256)
+        × CountsClaim meaning capacity kept (slice_set kept (run_word right.place) 256)
     claim_alone kept is =
         let c = t.claims in
         let middle_is : t.middle.alone ≡ Some kept = alone_stays u t.middle t.looks ∙ is in
@@ -121,7 +124,7 @@ module _ {R : Type 0} (meaning : Meaning) (room : ℕ) where
         let run_is : slice_index kept (run_word right.place) ≡ 0 =
         c.looks.alone kept middle_is (run_word right.place) 0 (inl (refl, refl)) in (
           ap (λ (h : Hands R). h.alone) c.hands_are ∙ ap (changed (run_word right.place) 256) middle_is,
-          claim_counts meaning room right.place kept c.its.near (c.lone kept middle_is)
+          claim_counts meaning capacity right.place kept c.its.near (c.lone kept middle_is)
               (λ e. c.its.some_goal (sym cell_is ∙ e)) (subst (λ g. meaning.goal g ≡ true) (sym cell_is) c.its.is_goal)
               run_is,
         )
@@ -131,7 +134,7 @@ module _ {R : Type 0} (meaning : Meaning) (room : ℕ) where
     turn_keeps w free k = record {
       parts = k.parts ∙ claim_parts;
       rights = k.rights (claim_only free) ∙ sym free;
-      looks = λ word found look. k.looks word found (claims_later meaning room u right v t word found look);
+      looks = λ word found look. k.looks word found (claims_later meaning capacity u right v t word found look);
     }
 
     runs_one : (number : ℕ) (w : Hands R) → TurnKeeps v w right.place → FinishesOne v w number right.place
@@ -163,7 +166,7 @@ module _ {R : Type 0} (meaning : Meaning) (room : ℕ) where
       });
     }
 
-    turn_full : (w : Hands R) → TurnKeeps v w right.place → RunsOut v w → IsFull meaning room 0 u w
+    turn_full : (w : Hands R) → TurnKeeps v w right.place → RunsOut v w → IsFull meaning capacity 0 u w
     turn_full w k o = record {
       runs_out = record {
         more = o.more ++ claim_more;
@@ -175,7 +178,7 @@ module _ {R : Type 0} (meaning : Meaning) (room : ℕ) where
     }
 
     pub turn_steps : (root number : ℕ) (result : Stepped) (w : Hands R) → TurnKeeps v w right.place
-        → Runs number right.place v result w → Steps meaning room root number u result w
+        → Runs number right.place v result w → Steps meaning capacity root number u result w
     turn_steps root number stepped.Ran w k r = runs_one number w k r
     turn_steps root number stepped.Idle w k r = absurd r
     turn_steps root number stepped.Done w k r = absurd r
@@ -183,19 +186,20 @@ module _ {R : Type 0} (meaning : Meaning) (room : ℕ) where
         record { runs_out = f.runs_out; claims = f.claims }
 
     pub turn_alone : (number : ℕ) (result : Stepped) (w : Hands R) → Runs number right.place v result w
-        → (result ≡ stepped.Ran → AdvancesAlone meaning room v w) → StepsAlone meaning room u result w
+        → (result ≡ stepped.Ran → AdvancesAlone meaning capacity v w) → StepsAlone meaning capacity u result w
     turn_alone number stepped.Ran w r advances = λ kept is.
         let c = claim_alone kept is in
         let a = advances refl (slice_set kept (run_word right.place) 256) c.0 in
-        (a.0, a.1, advances_less meaning room kept (slice_set kept (run_word right.place) 256) a.0 c.1 a.2)
+        (a.0, a.1, advances_less meaning capacity kept (slice_set kept (run_word right.place) 256) a.0 c.1 a.2)
     turn_alone number stepped.Idle w r advances = absurd r
     turn_alone number stepped.Done w r advances = tt
     turn_alone number stepped.Full w r advances = tt
 
-  pub step_done : (root : ℕ) (v w : Hands R) → FindsRootClosed meaning room v root w → IsDone meaning room root v w
+  pub step_done : (root : ℕ) (v w : Hands R) → FindsRootClosed meaning capacity v root w
+      → IsDone meaning capacity root v w
   step_done root v w t = record { looks = t.looks; closed = t.closed; left_out = t.left_out }
 
-  pub step_full : (root : ℕ) (v w : Hands R) → FindsFullSet meaning room v w → IsFull meaning room root v w
+  pub step_full : (root : ℕ) (v w : Hands R) → FindsFullSet meaning capacity v w → IsFull meaning capacity root v w
   step_full root v w t = record {
     runs_out = record {
       more = t.looks.more;
@@ -207,8 +211,8 @@ module _ {R : Type 0} (meaning : Meaning) (room : ℕ) where
   }
 
   -- the root goal was found open, and then no goal ready
-  pub step_idle : (root : ℕ) (u v w : Hands R) → FindsRootOpen meaning room u root v
-      → FindsAllBusy meaning room v 0 room w → IsIdle meaning room root u w
+  pub step_idle : (root : ℕ) (u v w : Hands R) → FindsRootOpen meaning capacity u root v
+      → FindsAllBusy meaning capacity v 0 capacity w → IsIdle meaning capacity root u w
   step_idle root u v w a t = record {
     looks = looks_both u v w a.looks t.looks;
     busy = λ at below. busy_later meaning t.looks.more a.looks.more at (t.busy at (omega arith) below);
@@ -216,10 +220,10 @@ module _ {R : Type 0} (meaning : Meaning) (room : ℕ) where
   }
 
   -- so a seat that is alone, without a right, finds some goal ready
-  pub idle_alone : (root : ℕ) (u v w : Hands R) → u.rights ≡ [] → FindsRootOpen meaning room u root v
-      → FindsAllBusy meaning room v 0 room w → (kept : List ℕ) → u.alone ≡ Some kept → ⊥
+  pub idle_alone : (root : ℕ) (u v w : Hands R) → u.rights ≡ [] → FindsRootOpen meaning capacity u root v
+      → FindsAllBusy meaning capacity v 0 capacity w → (kept : List ℕ) → u.alone ≡ Some kept → ⊥
   idle_alone root u v w free a t kept is =
       let r = a.ready kept is free in
-      busy_unready meaning room kept t.looks.more r.0
+      busy_unready meaning capacity kept t.looks.more r.0
       (λ word value look. t.looks.alone kept (alone_stays u v a.looks ∙ is) word value look)
       (t.busy r.0 (omega arith) r.1.near) r.1

@@ -39,8 +39,8 @@ module _ {R : Type 0} where
       ∙ (ap (with_waits place waits) is ∙ waits_only place waits)
 
   -- a goal that was finished
-  module _ (room : ℕ) (v : Hands R) (place worker cost node : ℕ) (woken : Woken) (w : Hands R)
-      (t : FinishesGoal room v place worker cost node woken w) where
+  module _ (capacity : ℕ) (v : Hands R) (place worker cost node : ℕ) (woken : Woken) (w : Hands R)
+      (t : FinishesGoal capacity v place worker cost node woken w) where
     finish_is : w ≡ record (finishes v place worker cost node t.waiters) {
       alone = t.wakes.words;
       looks = t.wakes.more ++ ((head_word place, head_of t.waiters) ∷ v.looks);
@@ -58,27 +58,28 @@ module _ {R : Type 0} where
   give_up_later v place w (answer, t) word found look =
       subst (λ (h : Hands R). Looked h.looks word found) (sym t.hands_are) (inr look)
 
-module _ {R : Type 0} (room : ℕ) (Adds : ℕ → Type 0) (v : Hands R) (right : Right) (number : ℕ) where
-  pub finishes_keeps : (woken : Woken) (w : Hands R) → TurnFinishes room Adds v right number woken w
+module _ {R : Type 0} (capacity : ℕ) (Adds : ℕ → Type 0) (v : Hands R) (right : Right) (number : ℕ) where
+  pub finishes_keeps : (woken : Woken) (w : Hands R) → TurnFinishes capacity Adds v right number woken w
       → TurnKeeps v w right.place
   finishes_keeps woken w t =
       let m = t.proceeds.moves in
-      let f : w ≡ _ = finish_is room t.middle right.place number t.cost t.node woken w t.finishes in record {
+      let f : w ≡ _ = finish_is capacity t.middle right.place number t.cost t.node woken w t.finishes in record {
         parts = ap (λ (h : Hands R). h.parts) f ∙ ap (λ (h : Hands R). h.parts) m.hands_are;
         claims = ap (λ (h : Hands R). h.claims) f ∙ ap (λ (h : Hands R). h.claims) m.hands_are;
         rights = λ is. ap (λ (h : Hands R). h.rights) f
             ∙ (ap (without right.place) (moved_right right.place v t.proceeds.puts t.proceeds.waits t.middle m is)
             ∙ spent_only right.place (0 + t.proceeds.waits));
-        looks = λ word found look. finish_later room t.middle right.place number t.cost t.node woken w t.finishes word
+        looks = λ word found look. finish_later capacity t.middle right.place number t.cost t.node woken w t.finishes
+            word
             found
             (later_moved right.place v t.proceeds.puts t.proceeds.waits t.middle m word found look);
       }
 
-  pub finishes_one : (woken : Woken) (w : Hands R) → TurnFinishes room Adds v right number woken w
+  pub finishes_one : (woken : Woken) (w : Hands R) → TurnFinishes capacity Adds v right number woken w
       → FinishesOne v w number right.place
   finishes_one woken w t =
       let m = t.proceeds.moves in
-      let f : w ≡ _ = finish_is room t.middle right.place number t.cost t.node woken w t.finishes in record {
+      let f : w ≡ _ = finish_is capacity t.middle right.place number t.cost t.node woken w t.finishes in record {
         cost = t.cost;
         node = t.node;
         done = ap (λ (h : Hands R). h.done) f ∙ ap
@@ -87,7 +88,7 @@ module _ {R : Type 0} (room : ℕ) (Adds : ℕ → Type 0) (v : Hands R) (right 
         suspensions = ap (λ (h : Hands R). h.suspensions) f ∙ ap (λ (h : Hands R). h.suspensions) m.hands_are;
       }
 
-  pub suspends_keeps : (w : Hands R) → TurnSuspends room Adds v right number w → TurnKeeps v w right.place
+  pub suspends_keeps : (w : Hands R) → TurnSuspends capacity Adds v right number w → TurnKeeps v w right.place
   suspends_keeps w t =
       let m = t.proceeds.moves in
       let s : w ≡ _ = t.gives_up.1.hands_are in record {
@@ -101,7 +102,7 @@ module _ {R : Type 0} (room : ℕ) (Adds : ℕ → Type 0) (v : Hands R) (right 
       }
 
   pub suspends_one : right.waits ≡ 0 → v.rights ≡ fresh_right right.place ∷ [] → (w : Hands R)
-      → TurnSuspends room Adds v right number w → SuspendsOne v w right.place
+      → TurnSuspends capacity Adds v right number w → SuspendsOne v w right.place
   suspends_one fresh is w t =
       let m = t.proceeds.moves in
       let s : w ≡ _ = t.gives_up.1.hands_are in
@@ -120,7 +121,7 @@ module _ {R : Type 0} (room : ℕ) (Adds : ℕ → Type 0) (v : Hands R) (right 
         done = ap (λ (h : Hands R). h.done) s ∙ ap (λ (h : Hands R). h.done) m.hands_are;
       }
 
-  pub runs_out_keeps : (w : Hands R) → TurnRunsOut room Adds v right number w → TurnKeeps v w right.place
+  pub runs_out_keeps : (w : Hands R) → TurnRunsOut capacity Adds v right number w → TurnKeeps v w right.place
   runs_out_keeps w t =
       let m = t.runs_out.proceeds.moves in
       let f = t.runs_out.full.hands_are in
@@ -142,7 +143,7 @@ module _ {R : Type 0} (room : ℕ) (Adds : ℕ → Type 0) (v : Hands R) (right 
             (later_moved right.place v puts waits middle m word found look))));
       }
 
-  pub runs_out : (w : Hands R) → TurnRunsOut room Adds v right number w → RunsOut v w
+  pub runs_out : (w : Hands R) → TurnRunsOut capacity Adds v right number w → RunsOut v w
   runs_out w t =
       let m = t.runs_out.proceeds.moves in
       let f = t.runs_out.full.hands_are in

@@ -29,12 +29,12 @@ StaysClosed looks root found = ShowsClosed looks root → found ≡ standing.Don
 abbrev pub StaysFull : List (ℕ × ℕ) → Standing → Type 0
 StaysFull looks found = ShowsFull looks → (found ≡ standing.Full) ⊎ (found ≡ standing.Done)
 
-module _ {R : Type 0} (meaning : Meaning) (room : ℕ) (v : Hands R) where
+module _ {R : Type 0} (meaning : Meaning) (capacity : ℕ) (v : Hands R) where
   -- after further looks a goal was found ready, and claimed
   pub record LooksAndClaims (right : Right) (w : Hands R) : Type 0 where
     pub middle : Hands R
     pub looks : OnlyLooked v middle
-    pub claims : ClaimsGoal meaning room middle right.place right w
+    pub claims : ClaimsGoal meaning capacity middle right.place right w
 
   -- a goal was claimed, or nothing more than looks
   abbrev pub MayClaimOne : Option Right → Hands R → Type 0
@@ -56,13 +56,14 @@ module _ {R : Type 0} (meaning : Meaning) (room : ℕ) (v : Hands R) where
   pub record FindsRootOpen (root : ℕ) (w : Hands R) : Type 0 where
     pub looks : OnlyLooked v w
     pub root_open : ShowsOpen looks.more root
-    pub ready : (kept : List ℕ) → v.alone ≡ Some kept → v.rights ≡ [] → (place : ℕ) × IsReadyIn meaning room kept place
+    pub ready : (kept : List ℕ) → v.alone ≡ Some kept → v.rights ≡ [] → (place : ℕ)
+        × IsReadyIn meaning capacity kept place
 
   -- the head at the place was found closed; where the full word was seen set by then, some entry was shown by no look
   pub record FindsRootClosed (root : ℕ) (w : Hands R) : Type 0 where
     pub looks : OnlyLooked v w
     pub closed : ShowsClosed looks.more root
-    pub left_out : LeavesOut meaning room w.looks
+    pub left_out : LeavesOut meaning capacity w.looks
 
   -- the full word was found set
   pub record FindsFullSet (w : Hands R) : Type 0 where
@@ -86,24 +87,24 @@ module _ {R : Type 0} (meaning : Meaning) (room : ℕ) (v : Hands R) where
 module _ {R : Type 0} (meaning_of : R → Meaning) (b : Board R) (worker : Worker R) where
   -- it claimed a goal, or only looked
   abbrev pub WorkerClaims : Option Right → Worker R → Type 0
-  WorkerClaims found after = MayClaimOne (meaning_of b.key.rules) b.key.room (hands worker.seat) found
+  WorkerClaims found after = MayClaimOne (meaning_of b.setup.rules) b.setup.capacity (hands worker.seat) found
       (hands after.seat)
 
   -- it claimed a goal, or found all these places busy
   abbrev pub WorkerSweeps : (from to : ℕ) → Option Right → Worker R → Type 0
   WorkerSweeps from to found after =
-      Sweeps (meaning_of b.key.rules) b.key.room (hands worker.seat) from to found (hands after.seat)
+      Sweeps (meaning_of b.setup.rules) b.setup.capacity (hands worker.seat) from to found (hands after.seat)
 
   -- how it found the board to stand
   abbrev pub WorkerFinds : (root : ℕ) → Standing → Worker R → Type 0
   WorkerFinds root found after =
-      Finds (meaning_of b.key.rules) b.key.room (hands worker.seat) root found (hands after.seat)
+      Finds (meaning_of b.setup.rules) b.setup.capacity (hands worker.seat) root found (hands after.seat)
 
   -- what came of its look at all these places
   abbrev pub WorkerSeeks : (root from to : ℕ) → Sought → Worker R → Type 0
   WorkerSeeks root from to found after =
-      Seeks (meaning_of b.key.rules) b.key.room (hands worker.seat) root from to found (hands after.seat)
+      Seeks (meaning_of b.setup.rules) b.setup.capacity (hands worker.seat) root from to found (hands after.seat)
 
   -- what came of its look at all places of the board
   abbrev pub WorkerSeeksAll : (root : ℕ) → Sought → Worker R → Type 0
-  WorkerSeeksAll root found after = WorkerSeeks root 0 b.key.room found after
+  WorkerSeeksAll root found after = WorkerSeeks root 0 b.setup.capacity found after

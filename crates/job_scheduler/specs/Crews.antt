@@ -39,8 +39,8 @@ AreWorked meaning_of b root goal n workers =
 
 -- how much is left to do for a worker that is alone
 abbrev pub work_alone_left : Meaning → ℕ → Option (List ℕ) → ℕ
-work_alone_left meaning room None = 0
-work_alone_left meaning room (Some words) = work_left meaning room words
+work_alone_left meaning capacity None = 0
+work_alone_left meaning capacity (Some words) = work_left meaning capacity words
 
 -- the parts of all these workers
 abbrev pub parts_of : {R : Type 0} → List (Worker R) → ℕ

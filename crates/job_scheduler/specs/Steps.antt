@@ -64,11 +64,11 @@ Runs number place v stepped.Idle w = ⊥
 Runs number place v stepped.Done w = ⊥
 Runs number place v stepped.Full w = RunsOut v w
 
-module _ {R : Type 0} (meaning : Meaning) (room root : ℕ) (v w : Hands R) where
+module _ {R : Type 0} (meaning : Meaning) (capacity root : ℕ) (v w : Hands R) where
   -- nothing was claimed, and in this call each place was found without a goal that is ready, and the root goal open
   pub record IsIdle : Type 0 where
     pub looks : OnlyLooked v w
-    pub busy : (at : ℕ) → at < room → ShowsBusy meaning looks.more at
+    pub busy : (at : ℕ) → at < capacity → ShowsBusy meaning looks.more at
     pub root_open : ShowsOpen looks.more root
 
   -- nothing was claimed, and in this call the root goal was found finished; where the full word was seen set by then,
@@ -76,7 +76,7 @@ module _ {R : Type 0} (meaning : Meaning) (room root : ℕ) (v w : Hands R) wher
   pub record IsDone : Type 0 where
     pub looks : OnlyLooked v w
     pub closed : ShowsClosed looks.more root
-    pub left_out : LeavesOut meaning room w.looks
+    pub left_out : LeavesOut meaning capacity w.looks
 
   -- in this call the full word was found set, by a look or by an insert; one goal at most was claimed, and none
   -- finished
@@ -84,24 +84,25 @@ module _ {R : Type 0} (meaning : Meaning) (room root : ℕ) (v w : Hands R) wher
     pub runs_out : RunsOut v w
     pub claims : (w.claims ≡ v.claims) ⊎ ((place : ℕ) × (w.claims ≡ place ∷ v.claims))
 
-module _ {R : Type 0} (meaning : Meaning) (room root number : ℕ) (v : Hands R) where
+module _ {R : Type 0} (meaning : Meaning) (capacity root number : ℕ) (v : Hands R) where
   -- what the answer of a step means
   abbrev pub Steps : Stepped → Hands R → Type 0
   Steps stepped.Ran w = RunsOne v w number
-  Steps stepped.Idle w = IsIdle meaning room root v w
-  Steps stepped.Done w = IsDone meaning room root v w
-  Steps stepped.Full w = IsFull meaning room root v w
+  Steps stepped.Idle w = IsIdle meaning capacity root v w
+  Steps stepped.Done w = IsDone meaning capacity root v w
+  Steps stepped.Full w = IsFull meaning capacity root v w
 
 -- how much is left to do, which each turn brings down
 abbrev pub work_left : Meaning → ℕ → List ℕ → ℕ
-work_left meaning room words = (open_count room words + empty_count room words) * (room + 1) + ready_count meaning room
+work_left meaning capacity words = (open_count capacity words + empty_count capacity words) * (capacity + 1) +
+    ready_count meaning capacity
     words
 
-module _ {R : Type 0} (meaning : Meaning) (room : ℕ) (v : Hands R) where
+module _ {R : Type 0} (meaning : Meaning) (capacity : ℕ) (v : Hands R) where
   -- a worker that is alone never finds nothing to do, and each turn leaves less to do
   abbrev pub StepsAlone : Stepped → Hands R → Type 0
   StepsAlone stepped.Ran w = (kept : List ℕ) → v.alone ≡ Some kept → (words : List ℕ) × (w.alone ≡ Some words)
-      × (work_left meaning room words < work_left meaning room kept)
+      × (work_left meaning capacity words < work_left meaning capacity kept)
   StepsAlone stepped.Idle w = (kept : List ℕ) → v.alone ≡ Some kept → ⊥
   StepsAlone stepped.Done w = Unit {0}
   StepsAlone stepped.Full w = Unit {0}
@@ -111,13 +112,14 @@ module _ {R : Type 0} (meaning_of : R → Meaning) (b : Board R) (worker : Worke
   -- what the answer of its step means
   abbrev pub WorkerSteps : (root : ℕ) → Stepped → Worker R → Type 0
   WorkerSteps root found after =
-      Steps (meaning_of b.key.rules) b.key.room root worker.number (hands worker.seat) found (hands after.seat)
+      Steps (meaning_of b.setup.rules) b.setup.capacity root worker.number (hands worker.seat) found (hands after.seat)
 
   -- where it is alone it never finds nothing to do, and each turn leaves less to do
   abbrev pub WorkerStepsAlone : Stepped → Worker R → Type 0
   WorkerStepsAlone found after =
-      StepsAlone (meaning_of b.key.rules) b.key.room (hands worker.seat) found (hands after.seat)
+      StepsAlone (meaning_of b.setup.rules) b.setup.capacity (hands worker.seat) found (hands after.seat)
 
   -- the turn of a goal leaves it less to do, where it is alone
   abbrev pub WorkerAdvancesAlone : Worker R → Type 0
-  WorkerAdvancesAlone after = AdvancesAlone (meaning_of b.key.rules) b.key.room (hands worker.seat) (hands after.seat)
+  WorkerAdvancesAlone after = AdvancesAlone (meaning_of b.setup.rules) b.setup.capacity (hands worker.seat)
+      (hands after.seat)

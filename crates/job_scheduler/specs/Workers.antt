@@ -19,9 +19,9 @@ pub record ShowsGoal (meaning : Meaning) (looks : List (ℕ × ℕ)) (at goal : 
 pub record IsWorkerOf {R : Type 0} (meaning_of : R → Meaning) (b : Board R) (root goal : ℕ) (w : Worker R) : Type 0
   where
     pub seat : IsSeatOf meaning_of b w.seat
-    pub root_shown : ShowsGoal (meaning_of b.key.rules) (hands w.seat).looks root goal
-    pub hints : w.hints ≡ b.key.room
-    pub next : w.next ≤ b.key.room
+    pub root_shown : ShowsGoal (meaning_of b.setup.rules) (hands w.seat).looks root goal
+    pub hints : w.hints ≡ b.setup.capacity
+    pub next : w.next ≤ b.setup.capacity
     pub number : w.number < 64
 
 -- and it holds no goal, as between two calls

@@ -41,7 +41,7 @@ impl<R: GoalRules, J: Jobs<R>> Scheduler<R, J> {
     // Claims the goal of a hint, if it is ready.
     fn claim_hinted(&self, worker: &mut Worker<R>, hint: Option<u32>) -> Option<Right>
         requires worker { IsWorkerOf R.meaning self.now.board self.now.root self.now.goal worker.old }
-        requires near { IfSome hint (λ at. at < self.now.board.key.room) }
+        requires near { IfSome hint (λ at. at < self.now.board.setup.capacity) }
         ensures worker { IsWorkerOf R.meaning self.now.board self.now.root self.now.goal worker.new }
         ensures number { worker.new.number ≡ worker.old.number }
         ensures claims { WorkerClaims R.meaning self.now.board worker.old result worker.new }
@@ -59,7 +59,7 @@ impl<R: GoalRules, J: Jobs<R>> Scheduler<R, J> {
         ensures number { worker.new.number ≡ worker.old.number }
         ensures claims { WorkerClaims R.meaning self.now.board worker.old result worker.new }
     {
-        for _hint in 0..self.board.cap() {
+        for _hint in 0..self.board.capacity() {
             let hint = worker.hints.take();
             if hint.is_none() {
                 break;
@@ -90,7 +90,7 @@ impl<R: GoalRules, J: Jobs<R>> Scheduler<R, J> {
     // Claims the first goal from a place on that is ready, if one is before the end.
     fn claim_between(&self, worker: &mut Worker<R>, from: u32, to: u32) -> Option<Right>
         requires worker { IsWorkerOf R.meaning self.now.board self.now.root self.now.goal worker.old }
-        requires near { to ≤ self.now.board.key.room }
+        requires near { to ≤ self.now.board.setup.capacity }
         ensures worker { IsWorkerOf R.meaning self.now.board self.now.root self.now.goal worker.new }
         ensures number { worker.new.number ≡ worker.old.number }
         ensures sweeps { WorkerSweeps R.meaning self.now.board worker.old from to result worker.new }
@@ -108,7 +108,7 @@ impl<R: GoalRules, J: Jobs<R>> Scheduler<R, J> {
     // other workers were told of meanwhile.
     fn scan_piece(&self, worker: &mut Worker<R>, from: u32, to: u32) -> Sought
         requires worker { IsWorkerOf R.meaning self.now.board self.now.root self.now.goal worker.old }
-        requires near { to ≤ self.now.board.key.room }
+        requires near { to ≤ self.now.board.setup.capacity }
         ensures worker { IsWorkerOf R.meaning self.now.board self.now.root self.now.goal worker.new }
         ensures number { worker.new.number ≡ worker.old.number }
         ensures seeks { WorkerSeeks R.meaning self.now.board worker.old
@@ -130,7 +130,7 @@ impl<R: GoalRules, J: Jobs<R>> Scheduler<R, J> {
     // Scans these places, piece by piece. The first pieces are short: often another worker is told of a goal soon.
     fn scan(&self, worker: &mut Worker<R>, from: u32, to: u32) -> Sought
         requires worker { IsWorkerOf R.meaning self.now.board self.now.root self.now.goal worker.old }
-        requires near { to ≤ self.now.board.key.room }
+        requires near { to ≤ self.now.board.setup.capacity }
         ensures worker { IsWorkerOf R.meaning self.now.board self.now.root self.now.goal worker.new }
         ensures number { worker.new.number ≡ worker.old.number }
         ensures seeks { WorkerSeeks R.meaning self.now.board worker.old
@@ -155,7 +155,7 @@ impl<R: GoalRules, J: Jobs<R>> Scheduler<R, J> {
         ensures seeks { WorkerSeeksAll R.meaning self.now.board worker.old self.now.root result worker.new }
     {
         let from = worker.next;
-        match self.scan(worker, from, self.board.cap()) {
+        match self.scan(worker, from, self.board.capacity()) {
             Sought::Busy => self.scan(worker, 0, from),
             sought => sought,
         }

@@ -26,16 +26,16 @@ pub trait Jobs<R: GoalRules>: Send + Sync {
         worker: u32,
         hints: &mut PlaceHints,
     ) -> Turned
-        requires rules { board.now.key.rules ≡ rules_of self.now }
+        requires rules { board.now.setup.rules ≡ rules_of self.now }
         requires seat { IsSeatOf R.meaning board.now seat.old }
-        requires right { IsRightOf (R.meaning board.now.key.rules) board.now.key.room (hands seat.old) right }
+        requires right { IsRightOf (R.meaning board.now.setup.rules) board.now.setup.capacity (hands seat.old) right }
         requires fresh { right.waits ≡ 0 }
         requires worker { worker < 64 }
-        requires hints { hints.old ≡ board.now.key.room }
+        requires hints { hints.old ≡ board.now.setup.capacity }
         ensures seat { IsSeatOf R.meaning board.now seat.new }
-        ensures turns { Turns board.now.key.room (adds self.now right.goal) (hands seat.old)
+        ensures turns { Turns board.now.setup.capacity (adds self.now right.goal) (hands seat.old)
             right worker result (hands seat.new) }
-        ensures alone { result ≢ turned.Full → AdvancesAlone (R.meaning board.now.key.rules)
-            board.now.key.room (hands seat.old) (hands seat.new) }
+        ensures alone { result ≢ turned.Full → AdvancesAlone (R.meaning board.now.setup.rules)
+            board.now.setup.capacity (hands seat.old) (hands seat.new) }
         ensures hints { hints.new ≡ hints.old };
 }

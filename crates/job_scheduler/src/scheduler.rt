@@ -18,36 +18,36 @@ pub struct Scheduler<R: GoalRules, J: Jobs<R>> {
     // The place of the root goal, and its word.
     pub(crate) root: u32,
     pub(crate) goal: u64,
-    ghost near: { root < board.key.room },
-    ghost same_rules: { board.key.rules ≡ J.rules_of jobs } by { Coded-set R.code board.key.rules (J.rules_of jobs) },
+    ghost near: { root < board.setup.capacity },
+    ghost same_rules: { board.setup.rules ≡ J.rules_of jobs } by { Coded-set R.code board.setup.rules (J.rules_of jobs) },
 }
 
 impl<R: GoalRules, J: Jobs<R>> Scheduler<R, J> {
     ghost use Rattle.job_scheduler.specs.Workers.{IsFreeWorkerOf};
     ghost use Rattle.job_scheduler.specs.Opening.{IsOpening};
 
-    /// A board of `cap` cells with the root goal alone, and its first worker, whose number is 0.
+    /// A board of `capacity` cells with the root goal alone, and its first worker, whose number is 0.
     pub fn start(
         alloc: Global,
         rules: R,
         jobs: J,
         goal: u64,
-        cap: u32,
+        capacity: u32,
     ) -> Result<(Scheduler<R, J>, Worker<R>), AllocError>
     where
         R: Drop,
         J: Drop,
-        requires capacity { (1 ≤ cap) × (cap ≤ 2 ^ 20) }
+        requires capacity { (1 ≤ capacity) × (capacity ≤ 2 ^ 20) }
         requires rules { rules ≡ J.rules_of jobs }
         requires goal { (R.meaning rules).entry goal × IsTrue ((R.meaning rules).goal goal) }
-        ensures board { IfOk result (λ made. (made.0.board.key.rules ≡ rules) ×
-            (made.0.board.key.room ≡ cap) × (made.0.goal ≡ goal)) }
+        ensures board { IfOk result (λ made. (made.0.board.setup.rules ≡ rules) ×
+            (made.0.board.setup.capacity ≡ capacity) × (made.0.goal ≡ goal)) }
         ensures worker { IfOk result (λ made.
             IsFreeWorkerOf R.meaning made.0.board made.0.root made.0.goal made.1 × (made.1.number ≡ 0)) }
-        ensures opening { IfOk result (λ made. IsOpening cap made.0.root goal (hands made.1.seat)) }
+        ensures opening { IfOk result (λ made. IsOpening capacity made.0.root goal (hands made.1.seat)) }
     {
-        let mut hints = PlaceHints::new(alloc, cap)?;
-        let (board, mut seat) = Board::start(alloc, rules, cap)?;
+        let mut hints = PlaceHints::new(alloc, capacity)?;
+        let (board, mut seat) = Board::start(alloc, rules, capacity)?;
         match board.insert(&mut seat, goal) {
             Inserted::Fresh { at } => {
                 hints.hint(at);
@@ -123,7 +123,7 @@ impl<R: GoalRules, J: Jobs<R>> Scheduler<R, J> {
         requires worker { IsFreeWorkerOf R.meaning self.board self.root self.goal worker }
         requires parts { (hands worker.seat).parts ≡ 64 }
         ensures { IfOk result
-            (ClosesWith R.meaning self.board.key.rules self.board.key.room (hands worker.seat)) }
+            (ClosesWith R.meaning self.board.setup.rules self.board.setup.capacity (hands worker.seat)) }
     {
         let Scheduler {
             board,

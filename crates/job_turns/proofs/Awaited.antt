@@ -26,10 +26,10 @@ use Rattle.goal_rules.specs.Meaning.{meaning_of}
 use Rattle.goal_rules.specs.declared.rules.Rules.{Rules}
 use Rattle.job_turns.specs.Works.{HasAwaited, AwaitsGoals}
 
-module _ (q : Query) (room : ℕ) where
+module _ (q : Query) (capacity : ℕ) where
   -- nothing was to be awaited
   pub has_none : (v : Hands Rules) (before : Right) (Wanted : GoalKind → Type 0)
-      → ((child : GoalKind) → Wanted child → ⊥) → HasAwaited q room v before Wanted v before
+      → ((child : GoalKind) → Wanted child → ⊥) → HasAwaited q capacity v before Wanted v before
   has_none v before Wanted none = record {
     proceeds = proceeds_none (IsChildWord q before.goal) v before;
     finished = λ no_wait child is. absurd (none child is);
@@ -37,36 +37,37 @@ module _ (q : Query) (room : ℕ) where
 
   -- one goal was
   pub has_one : (v : Hands Rules) (before : Right) (child : GoalKind) (answer : Progress) (w : Hands Rules)
-      (after : Right) → answer ≢ progress.Full → Awaits (meaning_of q) room v before (goal_word child) answer w after
-      → HasAwaited q room v before (λ other. other ≡ child) w after
+      (after : Right) → answer ≢ progress.Full → Awaits (meaning_of q) capacity v before (goal_word child) answer w
+      after
+      → HasAwaited q capacity v before (λ other. other ≡ child) w after
   has_one v before child answer w after fits t =
-      let one = awaited (meaning_of q) room v before (goal_word child) answer w after fits t in
+      let one = awaited (meaning_of q) capacity v before (goal_word child) answer w after fits t in
       record {
         proceeds = one.0;
         finished = λ none other is.
-            subst (λ k. ShowsFinished (meaning_of q) room w.looks (goal_word k)) (sym is) (one.1 none);
+            subst (λ k. ShowsFinished (meaning_of q) capacity w.looks (goal_word k)) (sym is) (one.1 none);
       }
 
   -- others are wanted, all of which were awaited
   pub has_others : (v : Hands Rules) (before : Right) (Wanted Others : GoalKind → Type 0)
       → ((child : GoalKind) → Others child → Wanted child) → (w : Hands Rules) (after : Right)
-      → HasAwaited q room v before Wanted w after
-      → HasAwaited q room v before Others w after
+      → HasAwaited q capacity v before Wanted w after
+      → HasAwaited q capacity v before Others w after
   has_others v before Wanted Others within w after t =
       record { proceeds = t.proceeds; finished = λ none child is. t.finished none child (within child is) }
 
   -- some goals, and then others
   pub has_both : (v : Hands Rules) (before : Right) (First Others : GoalKind → Type 0) (u : Hands Rules)
-      (middle : Right) (w : Hands Rules) (after : Right) → HasAwaited q room v before First u middle
-      → HasAwaited q room u middle Others w after
-      → HasAwaited q room v before (λ child. First child ⊎ Others child) w after
+      (middle : Right) (w : Hands Rules) (after : Right) → HasAwaited q capacity v before First u middle
+      → HasAwaited q capacity u middle Others w after
+      → HasAwaited q capacity v before (λ child. First child ⊎ Others child) w after
   has_both v before First Others u middle w after first second =
       let on = subst (λ k. Proceeds (IsChildWord q k) u middle w after) first.proceeds.same_goal second.proceeds in
       record {
         proceeds = proceeds_then (IsChildWord q before.goal) v before u middle w after first.proceeds on;
         finished = λ none child is. ⊎_elim
             (λ (old : First child). let more = on.more_waits in
-            still_finished (meaning_of q) room u.looks w.looks
+            still_finished (meaning_of q) capacity u.looks w.looks
             (later_proceeded (IsChildWord q before.goal) u middle w after on) (goal_word child)
             (first.finished (omega arith) child old))
             (λ (new : Others child). second.finished none child new) is;
@@ -74,23 +75,23 @@ module _ (q : Query) (room : ℕ) where
 
   -- some goals, and then one found no cell
   pub runs_out_after : (v : Hands Rules) (before : Right) (First : GoalKind → Type 0) (u : Hands Rules) (middle : Right)
-      (w : Hands Rules) (after : Right) → HasAwaited q room v before First u middle
-      → RunsOut (IsChildWord q middle.goal) u middle room w after
-      → RunsOut (IsChildWord q before.goal) v before room w after
+      (w : Hands Rules) (after : Right) → HasAwaited q capacity v before First u middle
+      → RunsOut (IsChildWord q middle.goal) u middle capacity w after
+      → RunsOut (IsChildWord q before.goal) v before capacity w after
   runs_out_after v before First u middle w after first t =
-      runs_out_then (IsChildWord q before.goal) room v before u middle w after first.proceeds
-      (subst (λ k. RunsOut (IsChildWord q k) u middle room w after) first.proceeds.same_goal t)
+      runs_out_then (IsChildWord q before.goal) capacity v before u middle w after first.proceeds
+      (subst (λ k. RunsOut (IsChildWord q k) u middle capacity w after) first.proceeds.same_goal t)
 
 -- some goals, and then others or one of them that found no cell
-pub awaits_then : (q : Query) (room : ℕ) (v : Hands Rules) (before : Right) (First Others : GoalKind → Type 0)
+pub awaits_then : (q : Query) (capacity : ℕ) (v : Hands Rules) (before : Right) (First Others : GoalKind → Type 0)
     (u : Hands Rules) (middle : Right) (fits : Bool) (w : Hands Rules) (after : Right)
-    → HasAwaited q room v before First u middle
-    → AwaitsGoals q room u middle Others fits w after
-    → AwaitsGoals q room v before (λ child. First child ⊎ Others child) fits w after
-awaits_then q room v before First Others u middle true w after first t =
-    has_both q room v before First Others u middle w after first t
-awaits_then q room v before First Others u middle false w after first t =
-    runs_out_after q room v before First u middle w after first t
+    → HasAwaited q capacity v before First u middle
+    → AwaitsGoals q capacity u middle Others fits w after
+    → AwaitsGoals q capacity v before (λ child. First child ⊎ Others child) fits w after
+awaits_then q capacity v before First Others u middle true w after first t =
+    has_both q capacity v before First Others u middle w after first t
+awaits_then q capacity v before First Others u middle false w after first t =
+    runs_out_after q capacity v before First u middle w after first t
 
 -- what is some goal is that one, and none is no goal
 pub some_is : (goal other : GoalKind) → Some goal ≡ Some other → other ≡ goal

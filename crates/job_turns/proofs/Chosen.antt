@@ -60,45 +60,46 @@ answers_known q one words requests fit small goal word cost node names is =
       small = best_small q fit goal is.answer (requests goal names.is_goal) answer;
     }
 
-module _ (q : Query) (room : ℕ) (small : IsWithinLimits q) (children : ChildrenAreKnown q) (asked : AskedAreKnown q)
+module _ (q : Query) (capacity : ℕ) (small : IsWithinLimits q) (children : ChildrenAreKnown q) (asked : AskedAreKnown q)
     (goal : GoalKind) (asks_none : (e : ExprParts) → AsksFor q goal e → ⊥)
     (v : Hands Rules) (before : Right) (names : NamesGoal q before.goal goal) where
   -- the work waits, or found no cell
   pub works_waiting : (w : Hands Rules) (after : Right) → Proceeds (IsChildWord q before.goal) v before w after
-      → 1 ≤ after.waits → WorksOn q room v before goal progress.Waiting w after
+      → 1 ≤ after.waits → WorksOn q capacity v before goal progress.Waiting w after
   works_waiting w after t waits = (goes_on q children small goal v before w after names t, waits)
 
-  pub works_full : (w : Hands Rules) (after : Right) → RunsOut (IsChildWord q before.goal) v before room w after
-      → WorksOn q room v before goal progress.Full w after
-  works_full w after t = runs_out q children small goal room v before w after names t
+  pub works_full : (w : Hands Rules) (after : Right) → RunsOut (IsChildWord q before.goal) v before capacity w after
+      → WorksOn q capacity v before goal progress.Full w after
+  works_full w after t = runs_out q children small goal capacity v before w after names t
 
   -- it is done where the answer is known and the right has no wait
   works_known : (best : Option Best) (answer : Answer) (w : Hands Rules) (after : Right)
-      → FindsChoice q room v before (IsChildGoal (IsMember q) q goal) (IsAnswerTo q goal) (Known best) w after
+      → FindsChoice q capacity v before (IsChildGoal (IsMember q) q goal) (IsAnswerTo q goal) (Known best) w after
       → after.waits ≡ 0 → AreWordsOf best answer.cost answer.node
-      → WorksOn q room v before goal (progress.Complete answer) w after
+      → WorksOn q capacity v before goal (progress.Complete answer) w after
   works_known best answer w after t none words =
       let same = t.awaited.proceeds.same_goal in
-      let promise = promise_shown q children small goal asked room w.looks before.goal names (t.awaited.finished none)
+      let promise = promise_shown q children small goal asked capacity w.looks before.goal names
+      (t.awaited.finished none)
       (λ e asks. absurd (asks_none e asks)) in (
         goes_on q children small goal v before w after names t.awaited.proceeds,
         (
           none,
-          subst (ShowsPromise (meaning_of q) room w.looks) (sym same) promise,
+          subst (ShowsPromise (meaning_of q) capacity w.looks) (sym same) promise,
           subst (λ word. IsAnswerWord q word answer.cost answer.node) (sym same)
               (record { goal = goal; names = names; answer = best; is_answer = t.is; words = words }),
         ),
       )
 
   pub works_chosen : (found : Option Choice) (w : Hands Rules) (after : Right) (result : Progress)
-      → Chooses q room v before (IsChildGoal (IsMember q) q goal) (IsAnswerTo q goal) found w after
+      → Chooses q capacity v before (IsChildGoal (IsMember q) q goal) (IsAnswerTo q goal) found w after
       → IsProgressOf after found result
-      → WorksOn q room v before goal result w after
+      → WorksOn q capacity v before goal result w after
   works_chosen (Some (Known best)) w after (progress.Complete answer) t is = works_known best answer w after t is.0 is.1
   works_chosen (Some (Known best)) w after progress.Waiting t is = works_waiting w after t.awaited.proceeds is
   works_chosen (Some (Known best)) w after progress.Full t is = absurd is
   works_chosen (Some Open) w after result t is =
-      subst (λ (p : Progress). WorksOn q room v before goal p w after) (sym is)
+      subst (λ (p : Progress). WorksOn q capacity v before goal p w after) (sym is)
       (works_waiting w after t.awaited.proceeds t.is)
-  works_chosen None w after result t is = subst (λ (p : Progress). WorksOn q room v before goal p w after) (sym is)
+  works_chosen None w after result t is = subst (λ (p : Progress). WorksOn q capacity v before goal p w after) (sym is)
       (works_full w after t)

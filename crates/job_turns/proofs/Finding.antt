@@ -36,26 +36,26 @@ other_known : (Is IsOther : Option Best → Type 0) → ((best : Option Best) �
 other_known Is IsOther others right (Known best) is = others best is
 other_known Is IsOther others right Open is = is
 
-module _ (q : Query) (room : ℕ) (v : Hands Rules) (before : Right) where
+module _ (q : Query) (capacity : ℕ) (v : Hands Rules) (before : Right) where
   -- nothing was to be awaited
   pub finds_none : (Wanted : GoalKind → Type 0) (Is : Option Best → Type 0) → ((child : GoalKind) → Wanted child → ⊥)
-      → (best : Option Best) → Is best → FindsChoice q room v before Wanted Is (Known best) v before
-  finds_none Wanted Is none best is = record { awaited = has_none q room v before Wanted none; is = is }
+      → (best : Option Best) → Is best → FindsChoice q capacity v before Wanted Is (Known best) v before
+  finds_none Wanted Is none best is = record { awaited = has_none q capacity v before Wanted none; is = is }
 
   -- others are wanted, all of which were awaited, and the answer is told otherwise
   pub finds_others : (Wanted Others : GoalKind → Type 0) (Is IsOther : Option Best → Type 0)
       → ((child : GoalKind) → Others child → Wanted child) → ((best : Option Best) → Is best → IsOther best)
-      → (choice : Choice) (w : Hands Rules) (after : Right) → FindsChoice q room v before Wanted Is choice w after
-      → FindsChoice q room v before Others IsOther choice w after
+      → (choice : Choice) (w : Hands Rules) (after : Right) → FindsChoice q capacity v before Wanted Is choice w after
+      → FindsChoice q capacity v before Others IsOther choice w after
   finds_others Wanted Others Is IsOther within others choice w after t = record {
-    awaited = has_others q room v before Wanted Others within w after t.awaited;
+    awaited = has_others q capacity v before Wanted Others within w after t.awaited;
     is = other_known Is IsOther others after choice t.is;
   }
 
   pub chooses_others : (Wanted Others : GoalKind → Type 0) (Is IsOther : Option Best → Type 0)
       → ((child : GoalKind) → Others child → Wanted child) → ((best : Option Best) → Is best → IsOther best)
-      → (found : Option Choice) (w : Hands Rules) (after : Right) → Chooses q room v before Wanted Is found w after
-      → Chooses q room v before Others IsOther found w after
+      → (found : Option Choice) (w : Hands Rules) (after : Right) → Chooses q capacity v before Wanted Is found w after
+      → Chooses q capacity v before Others IsOther found w after
   chooses_others Wanted Others Is IsOther within others (Some choice) w after t =
       finds_others Wanted Others Is IsOther within others choice w after t
   chooses_others Wanted Others Is IsOther within others None w after t = t
@@ -64,19 +64,19 @@ module _ (q : Query) (room : ℕ) (v : Hands Rules) (before : Right) where
   pub finds_both : (First Others : GoalKind → Type 0) (IsFirst IsOther IsBoth : Option Best → Type 0)
       → ((first second : Option Best) → IsFirst first → IsOther second → IsBoth (lesser first second))
       → (one other : Choice) (u : Hands Rules) (middle : Right) (w : Hands Rules) (after : Right)
-      → FindsChoice q room v before First IsFirst one u middle
-      → FindsChoice q room u middle Others IsOther other w after
-      → FindsChoice q room v before (λ child. First child ⊎ Others child) IsBoth (choice_of_both one other) w after
+      → FindsChoice q capacity v before First IsFirst one u middle
+      → FindsChoice q capacity u middle Others IsOther other w after
+      → FindsChoice q capacity v before (λ child. First child ⊎ Others child) IsBoth (choice_of_both one other) w after
   finds_both First Others IsFirst IsOther IsBoth joins one other u middle w after a b = record {
-    awaited = has_both q room v before First Others u middle w after a.awaited b.awaited;
+    awaited = has_both q capacity v before First Others u middle w after a.awaited b.awaited;
     is = both_known IsFirst IsOther IsBoth joins middle after (let more = b.awaited.proceeds.more_waits in omega arith)
         one other a.is b.is;
   }
 
   -- a choice, and then looks alone
   pub finds_looked : (Wanted : GoalKind → Type 0) (Is : Option Best → Type 0) (choice : Choice) (u : Hands Rules)
-      (middle : Right) (w : Hands Rules) → FindsChoice q room v before Wanted Is choice u middle → OnlyLooks u w
-      → FindsChoice q room v before Wanted Is choice w middle
+      (middle : Right) (w : Hands Rules) → FindsChoice q capacity v before Wanted Is choice u middle → OnlyLooks u w
+      → FindsChoice q capacity v before Wanted Is choice w middle
   finds_looked Wanted Is choice u middle w t looks =
       let Adds = IsChildWord q before.goal in
       let on : Proceeds Adds u middle w middle =
@@ -84,7 +84,7 @@ module _ (q : Query) (room : ℕ) (v : Hands Rules) (before : Right) where
       record {
         awaited = record {
           proceeds = proceeds_then Adds v before u middle w middle t.awaited.proceeds on;
-          finished = λ none child is. still_finished (meaning_of q) room u.looks w.looks (later_looked u w looks)
+          finished = λ none child is. still_finished (meaning_of q) capacity u.looks w.looks (later_looked u w looks)
               (goal_word child) (t.awaited.finished none child is);
         };
         is = t.is;
@@ -92,39 +92,39 @@ module _ (q : Query) (room : ℕ) (v : Hands Rules) (before : Right) where
 
   -- a choice, and then a goal found no cell
   pub chooses_none : (First : GoalKind → Type 0) (Is : Option Best → Type 0) (choice : Choice) (u : Hands Rules)
-      (middle : Right) (w : Hands Rules) (after : Right) → FindsChoice q room v before First Is choice u middle
-      → RunsOut (IsChildWord q middle.goal) u middle room w after
-      → RunsOut (IsChildWord q before.goal) v before room w after
+      (middle : Right) (w : Hands Rules) (after : Right) → FindsChoice q capacity v before First Is choice u middle
+      → RunsOut (IsChildWord q middle.goal) u middle capacity w after
+      → RunsOut (IsChildWord q before.goal) v before capacity w after
   chooses_none First Is choice u middle w after t out =
-      runs_out_after q room v before First u middle w after t.awaited out
+      runs_out_after q capacity v before First u middle w after t.awaited out
 
   -- two choices, from which a third is made
   pub finds_two : (First Others Wanted : GoalKind → Type 0) (IsFirst IsOther Is : Option Best → Type 0)
       → ((child : GoalKind) → Wanted child → First child ⊎ Others child)
       → (one other : Choice) (u : Hands Rules) (middle : Right) (w : Hands Rules) (after : Right)
-      → FindsChoice q room v before First IsFirst one u middle
-      → FindsChoice q room u middle Others IsOther other w after → (choice : Choice) → IsChoice Is after choice
-      → FindsChoice q room v before Wanted Is choice w after
+      → FindsChoice q capacity v before First IsFirst one u middle
+      → FindsChoice q capacity u middle Others IsOther other w after → (choice : Choice) → IsChoice Is after choice
+      → FindsChoice q capacity v before Wanted Is choice w after
   finds_two First Others Wanted IsFirst IsOther Is within one other u middle w after a b choice is = record {
-    awaited = has_others q room v before (λ child. First child ⊎ Others child) Wanted within w after
-        (has_both q room v before First Others u middle w after a.awaited b.awaited);
+    awaited = has_others q capacity v before (λ child. First child ⊎ Others child) Wanted within w after
+        (has_both q capacity v before First Others u middle w after a.awaited b.awaited);
     is = is;
   }
 
   -- goals that were awaited, and then a choice
   pub chooses_after : (First Others : GoalKind → Type 0) (Is : Option Best → Type 0) (u : Hands Rules) (middle : Right)
-      (found : Option Choice) (w : Hands Rules) (after : Right) → HasAwaited q room v before First u middle
-      → Chooses q room u middle Others Is found w after
-      → Chooses q room v before (λ child. First child ⊎ Others child) Is found w after
+      (found : Option Choice) (w : Hands Rules) (after : Right) → HasAwaited q capacity v before First u middle
+      → Chooses q capacity u middle Others Is found w after
+      → Chooses q capacity v before (λ child. First child ⊎ Others child) Is found w after
   chooses_after First Others Is u middle (Some choice) w after first t =
-      record { awaited = has_both q room v before First Others u middle w after first t.awaited; is = t.is }
+      record { awaited = has_both q capacity v before First Others u middle w after first t.awaited; is = t.is }
   chooses_after First Others Is u middle None w after first t =
-      runs_out_after q room v before First u middle w after first t
+      runs_out_after q capacity v before First u middle w after first t
 
   -- looks alone, and then a choice
   pub looks_choose : (Wanted : GoalKind → Type 0) (Is : Option Best → Type 0) (u : Hands Rules) → OnlyLooks v u
-      → (found : Option Choice) (w : Hands Rules) (after : Right) → Chooses q room u before Wanted Is found w after
-      → Chooses q room v before Wanted Is found w after
+      → (found : Option Choice) (w : Hands Rules) (after : Right) → Chooses q capacity u before Wanted Is found w after
+      → Chooses q capacity v before Wanted Is found w after
   looks_choose Wanted Is u looks found w after t =
       let looked = finds_looked (λ (child : GoalKind). ⊥) (λ (best : Option Best). best ≡ None) (Known None) v before u
       (finds_none (λ (child : GoalKind). ⊥) (λ (best : Option Best). best ≡ None) (λ child none. none) None refl)
@@ -135,27 +135,28 @@ module _ (q : Query) (room : ℕ) (v : Hands Rules) (before : Right) where
   -- a choice, from which another is made
   pub finds_told : (Wanted Others : GoalKind → Type 0) (Is IsOther : Option Best → Type 0)
       → ((child : GoalKind) → Others child → Wanted child) → (one : Choice) (w : Hands Rules) (after : Right)
-      → FindsChoice q room v before Wanted Is one w after → (choice : Choice) → IsChoice IsOther after choice
-      → FindsChoice q room v before Others IsOther choice w after
+      → FindsChoice q capacity v before Wanted Is one w after → (choice : Choice) → IsChoice IsOther after choice
+      → FindsChoice q capacity v before Others IsOther choice w after
   finds_told Wanted Others Is IsOther within one w after t choice is =
-      record { awaited = has_others q room v before Wanted Others within w after t.awaited; is = is }
+      record { awaited = has_others q capacity v before Wanted Others within w after t.awaited; is = is }
 
   -- children that were put in, and then others or one of them that found no cell
-  pub puts_children_then : (u : Hands Rules) (fits : Bool) (w : Hands Rules) → PutsChildren q room v before true u
-      → PutsChildren q room u before fits w → PutsChildren q room v before fits w
+  pub puts_children_then : (u : Hands Rules) (fits : Bool) (w : Hands Rules) → PutsChildren q capacity v before true u
+      → PutsChildren q capacity u before fits w → PutsChildren q capacity v before fits w
   puts_children_then u true w first t = proceeds_then (IsChildWord q before.goal) v before u before w before first t
-  puts_children_then u false w first t = runs_out_then (IsChildWord q before.goal) room v before u before w before first
+  puts_children_then u false w first t = runs_out_then (IsChildWord q before.goal) capacity v before u before w before
+      first
       t
 
   -- a child was awaited, and then children were put in, or one of them found no cell
   pub children_put : (u : Hands Rules) (middle : Right) (w : Hands Rules)
-      → Proceeds (IsChildWord q before.goal) v before u middle → PutsChildren q room u middle true w
+      → Proceeds (IsChildWord q before.goal) v before u middle → PutsChildren q capacity u middle true w
       → Proceeds (IsChildWord q before.goal) v before w middle
   children_put u middle w first t = proceeds_then (IsChildWord q before.goal) v before u middle w middle first
       (subst (λ word. Proceeds (IsChildWord q word) u middle w middle) first.same_goal t)
 
   pub children_full : (u : Hands Rules) (middle : Right) (w : Hands Rules)
-      → Proceeds (IsChildWord q before.goal) v before u middle → PutsChildren q room u middle false w
-      → RunsOut (IsChildWord q before.goal) v before room w middle
-  children_full u middle w first t = runs_out_then (IsChildWord q before.goal) room v before u middle w middle first
-      (subst (λ word. RunsOut (IsChildWord q word) u middle room w middle) first.same_goal t)
+      → Proceeds (IsChildWord q before.goal) v before u middle → PutsChildren q capacity u middle false w
+      → RunsOut (IsChildWord q before.goal) v before capacity w middle
+  children_full u middle w first t = runs_out_then (IsChildWord q before.goal) capacity v before u middle w middle first
+      (subst (λ word. RunsOut (IsChildWord q word) u middle capacity w middle) first.same_goal t)

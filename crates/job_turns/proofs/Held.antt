@@ -11,9 +11,10 @@ use Rattle.goal_rules.specs.Meaning.{meaning_of}
 use Rattle.job_turns.specs.Requests.{IsImplemented}
 
 -- a member of a group that is implemented is shown in a cell
-pub member_shown : (q : Query) (room : ℕ) (looks : List (ℕ × ℕ)) (e : PhysicalExpr) → IsImplemented q room looks e.group
-    → IsMember q (expr_of e) → (word : ℕ) → word_of (expr_of e) ≡ word → ShowsEntry (meaning_of q) room looks word
-member_shown q room looks e implemented member word number =
+pub member_shown : (q : Query) (capacity : ℕ) (looks : List (ℕ × ℕ)) (e : PhysicalExpr)
+    → IsImplemented q capacity looks e.group
+    → IsMember q (expr_of e) → (word : ℕ) → word_of (expr_of e) ≡ word → ShowsEntry (meaning_of q) capacity looks word
+member_shown q capacity looks e implemented member word number =
     asked_by (goal_word (Imp e.group)) word implemented.finished (record {
       goal = Imp e.group;
       member = expr_of e;

@@ -93,10 +93,10 @@ module _ (q : Query) (laws : ResultLaws q) where
     },
   )
 
-  module _ (room : ℕ) (looks : List (ℕ × ℕ)) (group : KeyParts) (is_goal : IsGoal q (Imp group)) where
+  module _ (capacity : ℕ) (looks : List (ℕ × ℕ)) (group : KeyParts) (is_goal : IsGoal q (Imp group)) where
     -- a logical member is shown in a cell where the exploration is shown finished
-    pub logical_shown : ShowsFinished (meaning_of q) room looks (goal_word (Exp group)) → (e : ExprParts)
-        → IsLogicalIn (IsMember q) group e → ShowsEntry (meaning_of q) room looks (word_of e)
+    pub logical_shown : ShowsFinished (meaning_of q) capacity looks (goal_word (Exp group)) → (e : ExprParts)
+        → IsLogicalIn (IsMember q) group e → ShowsEntry (meaning_of q) capacity looks (word_of e)
     logical_shown finished e is_in = asked_by (goal_word (Exp group)) (word_of e) finished
         (record {
           goal = Exp group;
@@ -108,9 +108,9 @@ module _ (q : Query) (laws : ResultLaws q) where
 
     -- a physical one is, where the goals that implement logical members are
     pub physical_shown : ((e : ExprParts) → IsLogicalIn (IsMember q) group e
-        → ShowsFinished (meaning_of q) room looks (goal_word (ImpE e))) → (x : ExprParts) → IsMember q x
+        → ShowsFinished (meaning_of q) capacity looks (goal_word (ImpE e))) → (x : ExprParts) → IsMember q x
         → x.group ≡ group → is_logical x.operator ≡ false
-        → ShowsEntry (meaning_of q) room looks (word_of x)
+        → ShowsEntry (meaning_of q) capacity looks (word_of x)
     physical_shown finished x member of_group physical =
         let (e, rule, from) = implemented_from x member physical in
         let is_in : IsLogicalIn (IsMember q) group e = subst (λ g. IsLogicalIn (IsMember q) g e) of_group from.from in
@@ -134,13 +134,13 @@ module _ (q : Query) (laws : ResultLaws q) where
         })
 
     -- so all members are
-    pub member_shown : ShowsFinished (meaning_of q) room looks (goal_word (Exp group))
+    pub member_shown : ShowsFinished (meaning_of q) capacity looks (goal_word (Exp group))
         → ((e : ExprParts) → IsLogicalIn (IsMember q) group e
-        → ShowsFinished (meaning_of q) room looks (goal_word (ImpE e)))
-        → (x : ExprParts) → AsksFor q (Imp group) x → ShowsEntry (meaning_of q) room looks (word_of x)
+        → ShowsFinished (meaning_of q) capacity looks (goal_word (ImpE e)))
+        → (x : ExprParts) → AsksFor q (Imp group) x → ShowsEntry (meaning_of q) capacity looks (word_of x)
     member_shown explored finished x (member, of_group) = by (is_logical x.operator) refl
       where
-        by : (b : Bool) → is_logical x.operator ≡ b → ShowsEntry (meaning_of q) room looks (word_of x)
+        by : (b : Bool) → is_logical x.operator ≡ b → ShowsEntry (meaning_of q) capacity looks (word_of x)
         by true logical = logical_shown explored x (record { member = member; of_group = of_group; logical = logical })
         by false physical = physical_shown finished x member of_group physical
 
@@ -166,34 +166,36 @@ module _ (q : Query) (group : KeyParts) where
 
   -- the end of the work: the group is explored, and the goals of all logical members were awaited
   pub implement_works : ResultLaws q → ((e : ExprParts) → IsMember q e → IsCandidate q e) → ChildrenAreKnown q
-      → AskedAreKnown q → IsWithinLimits q → (room : ℕ) (v u w : Hands Rules) (start middle after : Right) (number : ℕ)
+      → AskedAreKnown q → IsWithinLimits q → (capacity : ℕ) (v u w : Hands Rules) (start middle after : Right)
+      (number : ℕ)
       (came : Progress)
       → NamesGoal q start.goal (Imp group) → Proceeds (IsChildWord q start.goal) v start u middle
-      → ShowsFinished (meaning_of q) room u.looks (goal_word (Exp group))
-      → AwaitsAll (meaning_of q) room u (IsLogicalWord q group) implemented middle number w after
+      → ShowsFinished (meaning_of q) capacity u.looks (goal_word (Exp group))
+      → AwaitsAll (meaning_of q) capacity u (IsLogicalWord q group) implemented middle number w after
       → IsDoneUnlessWaiting after (record { cost = 0; node = 0 }) came
-      → WorksOn q room v start (Imp group) came w after
-  implement_works laws candidates children asked small room v u w start middle after number came names proceeds explored
+      → WorksOn q capacity v start (Imp group) came w after
+  implement_works laws candidates children asked small capacity v u w start middle after number came names proceeds
+      explored
       all done =
       let on = subst (λ k. Proceeds (IsChildWord q k) u middle w after) proceeds.same_goal all.proceeds in
       let whole = proceeds_then (IsChildWord q start.goal) v start u middle w after proceeds on in
       let later = later_proceeded (IsChildWord q start.goal) u middle w after on in
-      let explored_then : ShowsFinished (meaning_of q) room w.looks (goal_word (Exp group)) =
-      still_finished (meaning_of q) room u.looks w.looks later (goal_word (Exp group)) explored in
+      let explored_then : ShowsFinished (meaning_of q) capacity w.looks (goal_word (Exp group)) =
+      still_finished (meaning_of q) capacity u.looks w.looks later (goal_word (Exp group)) explored in
       let implemented_all : after.waits ≡ 0 → (e : ExprParts) → IsLogicalIn (IsMember q) group e
-      → ShowsFinished (meaning_of q) room w.looks (goal_word (ImpE e)) = λ none e is_in.
+      → ShowsFinished (meaning_of q) capacity w.looks (goal_word (ImpE e)) = λ none e is_in.
       let held : IsLogicalWord q group (word_of e) = (
         e,
         record { candidate = candidates e is_in.member; of_group = is_in.of_group; logical = is_in.logical },
         refl,
       ) in
       all.finished none (word_of e) (all.knew (word_of e) held
-      (logical_shown q laws room u.looks group names.is_goal explored e is_in)) in
-      works_end (meaning_of q) room (Adds q (Imp group)) v start w after (record { cost = 0; node = 0 }) came
+      (logical_shown q laws capacity u.looks group names.is_goal explored e is_in)) in
+      works_end (meaning_of q) capacity (Adds q (Imp group)) v start w after (record { cost = 0; node = 0 }) came
       (goes_on q children small (Imp group) v start w after names whole)
-      (λ none. promise_shown q children small (Imp group) asked room w.looks start.goal names
-      (λ child is. ⊎_elim (λ exp. subst (λ k. ShowsFinished (meaning_of q) room w.looks (goal_word k)) (sym exp)
-      explored_then) (λ (e, is_in, imp). subst (λ k. ShowsFinished (meaning_of q) room w.looks (goal_word k))
+      (λ none. promise_shown q children small (Imp group) asked capacity w.looks start.goal names
+      (λ child is. ⊎_elim (λ exp. subst (λ k. ShowsFinished (meaning_of q) capacity w.looks (goal_word k)) (sym exp)
+      explored_then) (λ (e, is_in, imp). subst (λ k. ShowsFinished (meaning_of q) capacity w.looks (goal_word k))
       (sym imp) (implemented_all none e is_in)) is)
-      (member_shown q laws room w.looks group names.is_goal explored_then (implemented_all none)))
+      (member_shown q laws capacity w.looks group names.is_goal explored_then (implemented_all none)))
       (record { goal = Imp group; names = names; answer = no_choice; is_answer = refl; words = (refl, refl) }) done

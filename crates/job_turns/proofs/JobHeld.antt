@@ -19,14 +19,15 @@ module _ (q : Query) (b : Board Rules) (s t : Seat Rules) (job : Job) (is_seat :
   job_looked looks = record {
     board = has_job.board;
     seat = is_seat;
-    right = right_looked (rules_mean b.key.rules) b.key.room job.right (hands s) (hands t) looks has_job.right;
+    right = right_looked (rules_mean b.setup.rules) b.setup.capacity job.right (hands s) (hands t) looks has_job.right;
   }
 
   -- and after it puts a word in, or finds no cell for it
-  pub job_put : (word : ℕ) (answer : Inserted) → Inserts b.key.room (hands s) word answer (hands t) → HasJob q b t job
+  pub job_put : (word : ℕ) (answer : Inserted) → Inserts b.setup.capacity (hands s) word answer (hands t)
+      → HasJob q b t job
   job_put word answer inserts = record {
     board = has_job.board;
     seat = is_seat;
-    right = right_put (rules_mean b.key.rules) b.key.room job.right (hands s) word answer (hands t) inserts
+    right = right_put (rules_mean b.setup.rules) b.setup.capacity job.right (hands s) word answer (hands t) inserts
         has_job.right;
   }

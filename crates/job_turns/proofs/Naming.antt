@@ -17,7 +17,8 @@ abbrev pub WordsAreOne : Type 0
 WordsAreOne = (k l : GoalKind) → IsInRange k → IsInRange l → goal_word k ≡ goal_word l → k ≡ l
 
 module _ (q : Query) where
-  same_goal : WordsAreOne → GoalsHaveWords q → IsWithinLimits q → (word : ℕ) (goal other : GoalKind) → NamesGoal q word goal
+  same_goal : WordsAreOne → GoalsHaveWords q → IsWithinLimits q → (word : ℕ) (goal other : GoalKind)
+      → NamesGoal q word goal
       → NamesGoal q word other → other ≡ goal
   same_goal one words small word goal other names also =
       one other goal (words small.few_lists small.few_orders other also.is_goal)

@@ -33,35 +33,37 @@ module _ (q : Query) (children : ChildrenAreKnown q) (small : IsWithinLimits q) 
   goes_on v before w after names t = proceeds_wider (IsChildWord q before.goal) (Adds q goal)
       (child_adds before.goal names) v before w after t
 
-  pub runs_out : (room : ℕ) (v : Hands Rules) (before : Right) (w : Hands Rules) (after : Right)
-      → NamesGoal q before.goal goal → RunsOut (IsChildWord q before.goal) v before room w after
-      → RunsOut (Adds q goal) v before room w after
-  runs_out room v before w after names t =
-      runs_out_wider (IsChildWord q before.goal) (Adds q goal) (child_adds before.goal names) room v before w after t
+  pub runs_out : (capacity : ℕ) (v : Hands Rules) (before : Right) (w : Hands Rules) (after : Right)
+      → NamesGoal q before.goal goal → RunsOut (IsChildWord q before.goal) v before capacity w after
+      → RunsOut (Adds q goal) v before capacity w after
+  runs_out capacity v before w after names t =
+      runs_out_wider (IsChildWord q before.goal) (Adds q goal) (child_adds before.goal names) capacity v before w
+      after t
 
   -- the promise is shown where all children are shown finished, and all that the goal asks for in cells
-  pub promise_shown : (asked : AskedAreKnown q) (room : ℕ) (looks : List (ℕ × ℕ)) (word : ℕ) → NamesGoal q word goal
+  pub promise_shown : (asked : AskedAreKnown q) (capacity : ℕ) (looks : List (ℕ × ℕ)) (word : ℕ) → NamesGoal q word goal
       → ((child : GoalKind) → IsChildGoal (IsMember q) q goal child
-      → ShowsFinished (meaning_of q) room looks (goal_word child))
-      → ((e : ExprParts) → AsksFor q goal e → ShowsEntry (meaning_of q) room looks (word_of e))
-      → ShowsPromise (meaning_of q) room looks word
-  promise_shown asked room looks word names finished shown = record {
+      → ShowsFinished (meaning_of q) capacity looks (goal_word child))
+      → ((e : ExprParts) → AsksFor q goal e → ShowsEntry (meaning_of q) capacity looks (word_of e))
+      → ShowsPromise (meaning_of q) capacity looks word
+  promise_shown asked capacity looks word names finished shown = record {
     children = λ child is. let t = children small goal word child names is in
-        subst (ShowsFinished (meaning_of q) room looks) t.2 (finished t.0 t.1);
+        subst (ShowsFinished (meaning_of q) capacity looks) t.2 (finished t.0 t.1);
     asked = λ other is. let t = asked small goal word other names is in
-        subst (ShowsEntry (meaning_of q) room looks) t.2 (shown t.0 t.1);
+        subst (ShowsEntry (meaning_of q) capacity looks) t.2 (shown t.0 t.1);
   }
 
   -- the end of the work of a goal that asks for nothing and chooses no plan
   pub works_of_children : (asked : AskedAreKnown q) → ((e : ExprParts) → AsksFor q goal e → ⊥)
       → IsAnswerTo q goal no_choice → (Wanted : GoalKind → Type 0)
       → ((child : GoalKind) → IsChildGoal (IsMember q) q goal child → Wanted child)
-      → (room : ℕ) (v : Hands Rules) (before : Right) (w : Hands Rules) (after : Right) (result : Progress)
-      → NamesGoal q before.goal goal → HasAwaited q room v before Wanted w after
-      → IsDoneUnlessWaiting after (record { cost = 0; node = 0 }) result → WorksOn q room v before goal result w after
-  works_of_children asked nothing is_answer Wanted all room v before w after result names t done =
-      works_end (meaning_of q) room (Adds q goal) v before w after (record { cost = 0; node = 0 }) result
+      → (capacity : ℕ) (v : Hands Rules) (before : Right) (w : Hands Rules) (after : Right) (result : Progress)
+      → NamesGoal q before.goal goal → HasAwaited q capacity v before Wanted w after
+      → IsDoneUnlessWaiting after (record { cost = 0; node = 0 }) result
+      → WorksOn q capacity v before goal result w after
+  works_of_children asked nothing is_answer Wanted all capacity v before w after result names t done =
+      works_end (meaning_of q) capacity (Adds q goal) v before w after (record { cost = 0; node = 0 }) result
       (goes_on v before w after names t.proceeds)
-      (λ none. promise_shown asked room w.looks before.goal names (λ child is. t.finished none child (all child is))
+      (λ none. promise_shown asked capacity w.looks before.goal names (λ child is. t.finished none child (all child is))
       (λ e asks. absurd (nothing e asks)))
       (record { goal = goal; names = names; answer = no_choice; is_answer = is_answer; words = (refl, refl) }) done

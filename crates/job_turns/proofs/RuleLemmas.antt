@@ -72,36 +72,37 @@ left_one arities.Zero group other left also = absurd left
 left_one (arities.One child) group other left also = left ∙ sym also
 left_one (arities.Two first second) group other left also = left ∙ sym also
 
-module _ (q : Query) (children : ChildrenAreKnown q) (asked : AskedAreKnown q) (small : IsWithinLimits q) (e : ExprParts)
+module _ (q : Query) (children : ChildrenAreKnown q) (asked : AskedAreKnown q) (small : IsWithinLimits q)
+    (e : ExprParts)
     (rule : Rule) where
   asked_adds : (word : ℕ) → NamesGoal q word (Xf e rule) → (other : ℕ) → IsAskedWord q word other
       → Adds q (Xf e rule) other
   asked_adds word names other is = inr (asked small (Xf e rule) word other names is)
 
-  pub results_run_out : (room : ℕ) (v : Hands Rules) (before : Right) (w : Hands Rules) (after : Right)
-      → NamesGoal q before.goal (Xf e rule) → RunsOut (IsAskedWord q before.goal) v before room w after
-      → RunsOut (Adds q (Xf e rule)) v before room w after
-  results_run_out room v before w after names t =
-      runs_out_wider (IsAskedWord q before.goal) (Adds q (Xf e rule)) (asked_adds before.goal names) room v before w
+  pub results_run_out : (capacity : ℕ) (v : Hands Rules) (before : Right) (w : Hands Rules) (after : Right)
+      → NamesGoal q before.goal (Xf e rule) → RunsOut (IsAskedWord q before.goal) v before capacity w after
+      → RunsOut (Adds q (Xf e rule)) v before capacity w after
+  results_run_out capacity v before w after names t =
+      runs_out_wider (IsAskedWord q before.goal) (Adds q (Xf e rule)) (asked_adds before.goal names) capacity v before w
       after t
 
   -- the end of the work, once what the rule brings is put in
-  pub rule_works : (room : ℕ) (v u w : Hands Rules) (start middle : Right) (Wanted : ExprParts → Type 0)
+  pub rule_works : (capacity : ℕ) (v u w : Hands Rules) (start middle : Right) (Wanted : ExprParts → Type 0)
       (came : Progress) → NamesGoal q start.goal (Xf e rule) → Proceeds (Adds q (Xf e rule)) v start u middle
-      → HasPut q room u middle Wanted w → (middle.waits ≡ 0 → (child : GoalKind)
-      → IsChildGoal (IsMember q) q (Xf e rule) child → ShowsFinished (meaning_of q) room u.looks (goal_word child))
+      → HasPut q capacity u middle Wanted w → (middle.waits ≡ 0 → (child : GoalKind)
+      → IsChildGoal (IsMember q) q (Xf e rule) child → ShowsFinished (meaning_of q) capacity u.looks (goal_word child))
       → ((x : ExprParts) → AsksFor q (Xf e rule) x → Wanted x)
       → IsDoneUnlessWaiting middle (record { cost = 0; node = 0 }) came
-      → WorksOn q room v start (Xf e rule) came w middle
-  rule_works room v u w start middle Wanted came names first put finished wanted done =
+      → WorksOn q capacity v start (Xf e rule) came w middle
+  rule_works capacity v u w start middle Wanted came names first put finished wanted done =
       let named : NamesGoal q middle.goal (Xf e rule) =
       subst (λ k. NamesGoal q k (Xf e rule)) (sym first.same_goal) names in
       let then = proceeds_wider (IsAskedWord q middle.goal) (Adds q (Xf e rule)) (asked_adds middle.goal named) u middle
       w middle put.proceeds in
-      works_end (meaning_of q) room (Adds q (Xf e rule)) v start w middle (record { cost = 0; node = 0 }) came
+      works_end (meaning_of q) capacity (Adds q (Xf e rule)) v start w middle (record { cost = 0; node = 0 }) came
       (proceeds_then (Adds q (Xf e rule)) v start u middle w middle first then)
-      (λ none. promise_shown q children small (Xf e rule) asked room w.looks start.goal names
-      (λ child is. still_finished (meaning_of q) room u.looks w.looks
+      (λ none. promise_shown q children small (Xf e rule) asked capacity w.looks start.goal names
+      (λ child is. still_finished (meaning_of q) capacity u.looks w.looks
       (later_proceeded (Adds q (Xf e rule)) u middle w middle then) (goal_word child) (finished none child is))
       (λ x asks. put.shown x (wanted x asks)))
       (record { goal = Xf e rule; names = names; answer = no_choice; is_answer = refl; words = (refl, refl) }) done

@@ -105,27 +105,29 @@ module _ (q : Query) (group : KeyParts) (wanted : Request) where
         record { candidate = is.candidate; of_group = refl; number = is.number }
 
     -- one candidate more was tried
-    pub finds_more : (room : ℕ) (v : Hands Rules) (before : Right) → LesserIsBest q → (props : Props) → IsProps q props
+    pub finds_more : (capacity : ℕ) (v : Hands Rules) (before : Right) → LesserIsBest q → (props : Props)
+        → IsProps q props
         → Fits q group wanted → (one other : Choice) (u : Hands Rules) (middle : Right) (w : Hands Rules)
         (after : Right)
-        → FindsChoice q room v before (IsMemberGoalAmong (take i candidates)) (IsBestAmong (take i candidates)) one u
+        → FindsChoice q capacity v before (IsMemberGoalAmong (take i candidates)) (IsBestAmong (take i candidates))
+        one u
         middle
-        → FindsChoice q room u middle (IsGoalOfMember q (get_or candidates i d).expr wanted)
+        → FindsChoice q capacity u middle (IsGoalOfMember q (get_or candidates i d).expr wanted)
         (IsBestOfMember q (get_or candidates i d).expr wanted) other w after
-        → FindsChoice q room v before (IsMemberGoalAmong (take (i + 1) candidates))
+        → FindsChoice q capacity v before (IsMemberGoalAmong (take (i + 1) candidates))
         (IsBestAmong (take (i + 1) candidates)) (choice_of_both one other) w after
-    finds_more room v before lesser_best props is_props fits one other u middle w after so_far last =
+    finds_more capacity v before lesser_best props is_props fits one other u middle w after so_far last =
         let new = get_or candidates i d in
         let tried = take i candidates in
         let more = tried ++ new ∷ [] in
-        let both = finds_both q room v before (IsMemberGoalAmong tried) (IsGoalOfMember q new.expr wanted)
+        let both = finds_both q capacity v before (IsMemberGoalAmong tried) (IsGoalOfMember q new.expr wanted)
         (IsBestAmong tried) (IsBestOfMember q new.expr wanted) (IsBestAmong more)
         (best_more tried new lesser_best props is_props fits (are.sound i d within).of_group) one other u middle w after
         so_far last in
         subst (λ (list : List PhysicalCandidate).
-        FindsChoice q room v before (IsMemberGoalAmong list) (IsBestAmong list) (choice_of_both one other) w after)
+        FindsChoice q capacity v before (IsMemberGoalAmong list) (IsBestAmong list) (choice_of_both one other) w after)
         (sym (take_more candidates i d within))
-        (finds_others q room v before (λ (child : GoalKind). IsMemberGoalAmong tried child
+        (finds_others q capacity v before (λ (child : GoalKind). IsMemberGoalAmong tried child
         ⊎ IsGoalOfMember q new.expr wanted child) (IsMemberGoalAmong more) (IsBestAmong more) (IsBestAmong more)
         (member_goal_more tried new) (λ best is. is) (choice_of_both one other) w after both)
 

@@ -22,7 +22,7 @@ use Rattle.job_turns.specs.Choices.{most_word, AnswersAreKnown, FindsChoice}
 use Rattle.job_turns.specs.declared.choice.Choice.TheVariants.{Known}
 use Rattle.job_turns.proofs.Awaited.{has_one}
 
-module _ (q : Query) (room : ℕ) where
+module _ (q : Query) (capacity : ℕ) where
   -- a child of a goal of the query is one of the query, by its own word
   names_child : (word : ℕ) (child : GoalKind) → IsChildOf q word child → NamesGoal q (goal_word child) child
   names_child word child is = record { is_goal = child_goal is.0 child is.1.is_goal is.2; number = refl }
@@ -30,14 +30,16 @@ module _ (q : Query) (room : ℕ) where
   -- the child is finished, and the words of its answer tell the answer
   pub known_child : IsWithinLimits q → AnswersAreKnown q → (v : Hands Rules) (before : Right) (child : GoalKind)
       → IsChildOf q before.goal child → (answer : Answer) (w : Hands Rules) (after : Right)
-      → Awaits (meaning_of q) room v before (goal_word child) (progress.Complete answer) w after → (best : Option Best)
+      → Awaits (meaning_of q) capacity v before (goal_word child) (progress.Complete answer) w after
+      → (best : Option Best)
       → ((other : Option Best) → AreWordsOf other answer.cost answer.node → IfSome other (λ b. b.cost < most_word)
       → best ≡ other)
-      → FindsChoice q room v before (λ goal. goal ≡ child) (IsAnswerTo q child) (Known best) w after
+      → FindsChoice q capacity v before (λ goal. goal ≡ child) (IsAnswerTo q child) (Known best) w after
   known_child small known v before child is answer w after t best only =
       let told = known small child (goal_word child) answer.cost answer.node (names_child before.goal child is)
       t.2.exact in
       record {
-        awaited = has_one q room v before child (progress.Complete answer) w after (λ full. let bad : ⊥ = cc in bad) t;
+        awaited = has_one q capacity v before child (progress.Complete answer) w after
+            (λ full. let bad : ⊥ = cc in bad) t;
         is = subst (IsAnswerTo q child) (sym (only told.best told.words told.small)) told.is_answer;
       }

@@ -71,22 +71,22 @@ abbrev pub IsChoice : (Option Best → Type 0) → Right → Choice → Type 0
 IsChoice Is right (Known best) = Is best
 IsChoice Is right Open = 1 ≤ right.waits
 
-module _ (q : Query) (room : ℕ) (v : Hands Rules) (before : Right) (Wanted : GoalKind → Type 0) (Is : Option Best
+module _ (q : Query) (capacity : ℕ) (v : Hands Rules) (before : Right) (Wanted : GoalKind → Type 0) (Is : Option Best
     → Type 0) where
   -- these goals were awaited, and the answer over theirs is one of these
   pub record FindsChoice (choice : Choice) (w : Hands Rules) (after : Right) : Type 0 where
-    pub awaited : HasAwaited q room v before Wanted w after
+    pub awaited : HasAwaited q capacity v before Wanted w after
     pub is : IsChoice Is after choice
 
   -- or one of the goals found no cell
   abbrev pub Chooses : Option Choice → Hands Rules → Right → Type 0
   Chooses (Some choice) w after = FindsChoice choice w after
-  Chooses None w after = RunsOut (IsChildWord q before.goal) v before room w after
+  Chooses None w after = RunsOut (IsChildWord q before.goal) v before capacity w after
 
 -- children of the goal were put in, or found in cells, or one of them found no cell
 abbrev pub PutsChildren : Query → ℕ → Hands Rules → Right → Bool → Hands Rules → Type 0
-PutsChildren q room v right true w = Proceeds (IsChildWord q right.goal) v right w right
-PutsChildren q room v right false w = RunsOut (IsChildWord q right.goal) v right room w right
+PutsChildren q capacity v right true w = Proceeds (IsChildWord q right.goal) v right w right
+PutsChildren q capacity v right false w = RunsOut (IsChildWord q right.goal) v right capacity w right
 
 -- complete with the words of what is known where the right has no wait, and else waiting; full where a goal found no
 -- cell

@@ -13,12 +13,14 @@ use Rattle.goal_space.specs.declared.goals.GoalKind.{GoalKind}
 
 -- a child's word is that of a child of the goal
 abbrev pub ChildrenAreKnown : Query → Type 0
-ChildrenAreKnown q = IsWithinLimits q → (goal : GoalKind) (word child : ℕ) → NamesGoal q word goal → IsChildWord q word child
+ChildrenAreKnown q = IsWithinLimits q → (goal : GoalKind) (word child : ℕ) → NamesGoal q word goal
+    → IsChildWord q word child
     → (other : GoalKind) × IsChildGoal (IsMember q) q goal other × (goal_word other ≡ child)
 
 -- a word that is asked for is that of a member that the goal asks for
 abbrev pub AskedAreKnown : Query → Type 0
-AskedAreKnown q = IsWithinLimits q → (goal : GoalKind) (word asked : ℕ) → NamesGoal q word goal → IsAskedWord q word asked
+AskedAreKnown q = IsWithinLimits q → (goal : GoalKind) (word asked : ℕ) → NamesGoal q word goal
+    → IsAskedWord q word asked
     → (e : ExprParts) × AsksFor q goal e × (word_of e ≡ asked)
 
 -- a goal of the query has a word

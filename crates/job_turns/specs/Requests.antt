@@ -20,9 +20,9 @@ use Rattle.goal_space.specs.declared.goals.GoalKind.TheVariants.{Imp, Opt, OptE}
 use Rattle.goal_rules.specs.Meaning.{meaning_of}
 
 -- the looks show all members of the group in cells: its implementation is a goal, and finished
-pub record IsImplemented (q : Query) (room : ℕ) (looks : List (ℕ × ℕ)) (group : KeyParts) : Type 0 where
+pub record IsImplemented (q : Query) (capacity : ℕ) (looks : List (ℕ × ℕ)) (group : KeyParts) : Type 0 where
   pub is_goal : IsGoal q (Imp group)
-  pub finished : ShowsFinished (meaning_of q) room looks (goal_word (Imp group))
+  pub finished : ShowsFinished (meaning_of q) capacity looks (goal_word (Imp group))
 
 -- ---- members
 

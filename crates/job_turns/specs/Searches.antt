@@ -18,7 +18,7 @@ rules_mean rules = meaning_of rules.query.now
 
 -- the board's rules are those of the query, which has at most 60 hashed lists and orders
 pub record IsBoardOf (q : Query) (b : Board Rules) : Type 0 where
-  pub same_query : b.key.rules.query.now ≡ q
+  pub same_query : b.setup.rules.query.now ≡ q
   pub small : IsWithinLimits q
 
 -- the seat is one of this board
@@ -27,7 +27,7 @@ IsSeat b s = IsSeatOf rules_mean b s
 
 -- the seat has the right
 abbrev pub HasRight : Board Rules → Seat Rules → Right → Type 0
-HasRight b s right = IsRightOf (rules_mean b.key.rules) b.key.room (hands s) right
+HasRight b s right = IsRightOf (rules_mean b.setup.rules) b.setup.capacity (hands s) right
 
 -- the seat is one of the query's board, and has the right of the job
 pub record HasJob (q : Query) (b : Board Rules) (s : Seat Rules) (job : Job) : Type 0 where
@@ -35,7 +35,7 @@ pub record HasJob (q : Query) (b : Board Rules) (s : Seat Rules) (job : Job) : T
   pub seat : IsSeat b s
   pub right : HasRight b s job.right
 
--- the seat has the job, and the hints have the capacity of the board's room
+-- the seat has the job, and the hints have the board's capacity
 pub record IsAtWork (q : Query) (b : Board Rules) (s : Seat Rules) (job : Job) (capacity : ℕ) : Type 0 where
   pub has_job : HasJob q b s job
-  pub hints : capacity ≡ b.key.room
+  pub hints : capacity ≡ b.setup.capacity

@@ -31,29 +31,30 @@ AreChildrenOf q word Wanted = (child : GoalKind) → Wanted child → IsChildOf 
 module _ (q : Query) (b : Board Rules) (s : Seat Rules) (job : Job) where
   -- the goal's work is done, or waits, or found no cell
   abbrev pub SeatWorks : GoalKind → Progress → Seat Rules → Job → Type 0
-  SeatWorks goal progress t after = WorksOn q b.key.room (hands s) job.right goal progress (hands t) after.right
+  SeatWorks goal progress t after = WorksOn q b.setup.capacity (hands s) job.right goal progress (hands t) after.right
 
   -- the child is finished and has this answer, or is waited for, or found no cell
   abbrev pub SeatAwaitsOne : GoalKind → Progress → Seat Rules → Job → Type 0
   SeatAwaitsOne child progress t after =
-      Awaits (meaning_of q) b.key.room (hands s) job.right (goal_word child) progress (hands t) after.right
+      Awaits (meaning_of q) b.setup.capacity (hands s) job.right (goal_word child) progress (hands t) after.right
 
   -- these goals were awaited, or one of them found no cell
   abbrev pub SeatAwaits : (Wanted : GoalKind → Type 0) → Bool → Seat Rules → Job → Type 0
-  SeatAwaits Wanted room_left t after = AwaitsGoals q b.key.room (hands s) job.right Wanted room_left (hands t)
+  SeatAwaits Wanted capacity_left t after = AwaitsGoals q b.setup.capacity (hands s) job.right Wanted capacity_left
+      (hands t)
       after.right
 
   -- these members were put in, or one of them found no cell
   abbrev pub SeatPuts : (Wanted : ExprParts → Type 0) → Bool → Seat Rules → Type 0
-  SeatPuts Wanted room_left t = PutsMembers q b.key.room (hands s) job.right Wanted room_left (hands t)
+  SeatPuts Wanted capacity_left t = PutsMembers q b.setup.capacity (hands s) job.right Wanted capacity_left (hands t)
 
 module _ (q : Query) (b : Board Rules) (s : Seat Rules) (group : KeyParts) where
   -- the seat's looks show the group's origin
   abbrev pub ShowsOrigin : Type 0
-  ShowsOrigin = ShowsEntry (meaning_of q) b.key.room (hands s).looks (origin_word q group)
+  ShowsOrigin = ShowsEntry (meaning_of q) b.setup.capacity (hands s).looks (origin_word q group)
 
   -- what the double collection of the group found
   abbrev pub SeatSettles : Settled → Seat Rules → Type 0
   SeatSettles settled t =
-      Settles (meaning_of q) b.key.room (IsLogicalWord q group) explored (hands s) (goal_word (Exp group)) settled
+      Settles (meaning_of q) b.setup.capacity (IsLogicalWord q group) explored (hands s) (goal_word (Exp group)) settled
       (hands t)

@@ -12,8 +12,8 @@ use Rattle.job_turns.specs.Works.{Adds}
 
 -- the turn of the right's goal; what it puts in is a child of that goal, a member that the goal's rule brings, or the
 -- origin of the group that the goal explores
-pub record TurnsGoal (q : Query) (room : ℕ) (v : Hands Rules) (right : Right) (worker : ℕ) (turned : Turned)
+pub record TurnsGoal (q : Query) (capacity : ℕ) (v : Hands Rules) (right : Right) (worker : ℕ) (turned : Turned)
     (w : Hands Rules) : Type 0 where
   pub goal : GoalKind
   pub names : NamesGoal q right.goal goal
-  pub turns : Turns room (Adds q goal) v right worker turned w
+  pub turns : Turns capacity (Adds q goal) v right worker turned w

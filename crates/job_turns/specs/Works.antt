@@ -40,21 +40,21 @@ Adds q goal word =
 abbrev pub IsChildOf : Query → ℕ → GoalKind → Type 0
 IsChildOf q word child = (goal : GoalKind) × NamesGoal q word goal × IsChildGoal (IsMember q) q goal child
 
-module _ (q : Query) (room : ℕ) (v : Hands Rules) (before : Right) where
+module _ (q : Query) (capacity : ℕ) (v : Hands Rules) (before : Right) where
   -- these goals were awaited: they are finished, unless the right has a wait
   pub record HasAwaited (Wanted : GoalKind → Type 0) (w : Hands Rules) (after : Right) : Type 0 where
     pub proceeds : Proceeds (IsChildWord q before.goal) v before w after
     pub finished : after.waits ≡ 0 → (child : GoalKind) → Wanted child
-        → ShowsFinished (meaning_of q) room w.looks (goal_word child)
+        → ShowsFinished (meaning_of q) capacity w.looks (goal_word child)
 
   -- or one of them found no cell
   abbrev pub AwaitsGoals : (Wanted : GoalKind → Type 0) → Bool → Hands Rules → Right → Type 0
   AwaitsGoals Wanted true w after = HasAwaited Wanted w after
-  AwaitsGoals Wanted false w after = RunsOut (IsChildWord q before.goal) v before room w after
+  AwaitsGoals Wanted false w after = RunsOut (IsChildWord q before.goal) v before capacity w after
 
   -- the work of the goal is done, or waits, or found no cell
   abbrev pub WorksOn : GoalKind → Progress → Hands Rules → Right → Type 0
-  WorksOn goal progress w after = Works (meaning_of q) room (Adds q goal) v before progress w after
+  WorksOn goal progress w after = Works (meaning_of q) capacity (Adds q goal) v before progress w after
 
 -- one of the goals that are there
 abbrev pub IsOneOf : Option GoalKind × Option GoalKind → GoalKind → Type 0
@@ -64,16 +64,16 @@ IsOneOf goals child = (goals.0 ≡ Some child) ⊎ (goals.1 ≡ Some child)
 abbrev pub IsAskedOf : Query → ℕ → ExprParts → Type 0
 IsAskedOf q word e = (goal : GoalKind) × NamesGoal q word goal × AsksFor q goal e
 
-module _ (q : Query) (room : ℕ) (v : Hands Rules) (right : Right) where
+module _ (q : Query) (capacity : ℕ) (v : Hands Rules) (right : Right) where
   -- these members that the goal asks for were put in, or found in cells
   pub record HasPut (Wanted : ExprParts → Type 0) (w : Hands Rules) : Type 0 where
     pub proceeds : Proceeds (IsAskedWord q right.goal) v right w right
-    pub shown : (e : ExprParts) → Wanted e → ShowsEntry (meaning_of q) room w.looks (word_of e)
+    pub shown : (e : ExprParts) → Wanted e → ShowsEntry (meaning_of q) capacity w.looks (word_of e)
 
   -- or one of them found no cell
   abbrev pub PutsMembers : (Wanted : ExprParts → Type 0) → Bool → Hands Rules → Type 0
   PutsMembers Wanted true w = HasPut Wanted w
-  PutsMembers Wanted false w = RunsOut (IsAskedWord q right.goal) v right room w right
+  PutsMembers Wanted false w = RunsOut (IsAskedWord q right.goal) v right capacity w right
 
 -- one of the groups that are there
 abbrev pub IsOneOfGroups : Option KeyParts × Option KeyParts → KeyParts → Type 0

@@ -58,7 +58,7 @@ pub(crate) fn await_choice<'q, H: Hints>(
     requires child { IsChildOf query.now job.old.right.goal child }
     requires word { goal_word child ≡ word.0 }
     ensures at_work { IsAtWork query.now board.now seat.new job.new (H.capacity hints.new) }
-    ensures chooses { Chooses query.now board.now.key.room (hands seat.old) job.old.right
+    ensures chooses { Chooses query.now board.now.setup.capacity (hands seat.old) job.old.right
         (λ goal. goal ≡ child) (IsAnswerTo query.now child) result (hands seat.new) job.new.right }
 {
     // For the proof: the words of an answer tell it.
@@ -82,7 +82,7 @@ pub(crate) fn put_child<'q, H: Hints>(
     requires at_work { IsAtWork query.now board.now seat.old job.now (H.capacity hints.old) }
     requires child { IsChildOf query.now job.now.right.goal child }
     ensures at_work { IsAtWork query.now board.now seat.new job.now (H.capacity hints.new) }
-    ensures puts { PutsChildren query.now board.now.key.room (hands seat.old) job.now.right
+    ensures puts { PutsChildren query.now board.now.setup.capacity (hands seat.old) job.now.right
         result (hands seat.new) }
 {
     // For the proof: a child of a goal has a word.

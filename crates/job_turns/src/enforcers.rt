@@ -36,7 +36,7 @@ pub(crate) fn best_enforcer<'q, H: Hints>(
     requires at_work { IsAtWork query.now board.now seat.old job.old (H.capacity hints.old) }
     requires goal { NamesGoal query.now job.old.right.goal (Opt group wanted) }
     ensures at_work { IsAtWork query.now board.now seat.new job.new (H.capacity hints.new) }
-    ensures chooses { Chooses query.now board.now.key.room (hands seat.old) job.old.right
+    ensures chooses { Chooses query.now board.now.setup.capacity (hands seat.old) job.old.right
         (IsEnforcerGoal query.now group wanted)
         (IsBest query.now group wanted (first_enforcers wanted))
         result (hands seat.new) job.new.right }
@@ -64,7 +64,7 @@ pub(crate) fn put_enforcers<'q, H: Hints>(
     requires at_work { IsAtWork query.now board.now seat.old job.now (H.capacity hints.old) }
     requires goal { NamesGoal query.now job.now.right.goal (Opt group wanted) }
     ensures at_work { IsAtWork query.now board.now seat.new job.now (H.capacity hints.new) }
-    ensures puts { PutsChildren query.now board.now.key.room (hands seat.old) job.now.right
+    ensures puts { PutsChildren query.now board.now.setup.capacity (hands seat.old) job.now.right
         result (hands seat.new) }
 {
     if !put_enforcer(query, props, board, seat, job, group, wanted, 0, hints) {
@@ -89,7 +89,7 @@ fn put_enforcer<'q, H: Hints>(
     requires at_work { IsAtWork query.now board.now seat.old job.now (H.capacity hints.old) }
     requires goal { NamesGoal query.now job.now.right.goal (Opt group wanted) }
     ensures at_work { IsAtWork query.now board.now seat.new job.now (H.capacity hints.new) }
-    ensures puts { PutsChildren query.now board.now.key.room (hands seat.old) job.now.right
+    ensures puts { PutsChildren query.now board.now.setup.capacity (hands seat.old) job.now.right
         result (hands seat.new) }
 {
     // For the proof: the request fits the group.
@@ -119,7 +119,7 @@ fn await_enforcer<'q, H: Hints>(
     requires at_work { IsAtWork query.now board.now seat.old job.old (H.capacity hints.old) }
     requires goal { NamesGoal query.now job.old.right.goal (Opt group wanted) }
     ensures at_work { IsAtWork query.now board.now seat.new job.new (H.capacity hints.new) }
-    ensures chooses { Chooses query.now board.now.key.room (hands seat.old) job.old.right
+    ensures chooses { Chooses query.now board.now.setup.capacity (hands seat.old) job.old.right
         (IsEnforcerGoalAt group wanted place)
         (IsBest query.now group wanted (enforcer_at wanted place))
         result (hands seat.new) job.new.right }

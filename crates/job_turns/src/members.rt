@@ -41,9 +41,9 @@ pub(crate) fn best_member<'q, H: Hints>(
     requires props { IsProps query.now props.now }
     requires at_work { IsAtWork query.now board.now seat.old job.old (H.capacity hints.old) }
     requires goal { NamesGoal query.now job.old.right.goal (Opt group wanted) }
-    requires implemented { IsImplemented query.now board.now.key.room (hands seat.old).looks group }
+    requires implemented { IsImplemented query.now board.now.setup.capacity (hands seat.old).looks group }
     ensures at_work { IsAtWork query.now board.now seat.new job.new (H.capacity hints.new) }
-    ensures chooses { Chooses query.now board.now.key.room (hands seat.old) job.old.right
+    ensures chooses { Chooses query.now board.now.setup.capacity (hands seat.old) job.old.right
         (IsMemberGoal query.now group wanted) (IsBestOfMembers query.now group wanted)
         result (hands seat.new) job.new.right }
 {
@@ -76,10 +76,10 @@ fn await_candidate<'q, H: Hints>(
     requires at_work { IsAtWork query.now board.now seat.old job.old (H.capacity hints.old) }
     requires candidate { IsPhysicalOf query.now candidate.expr.group candidate }
     requires goal { NamesGoal query.now job.old.right.goal (Opt candidate.expr.group wanted) }
-    requires implemented { IsImplemented query.now board.now.key.room
+    requires implemented { IsImplemented query.now board.now.setup.capacity
         (hands seat.old).looks candidate.expr.group }
     ensures at_work { IsAtWork query.now board.now seat.new job.new (H.capacity hints.new) }
-    ensures chooses { Chooses query.now board.now.key.room (hands seat.old) job.old.right
+    ensures chooses { Chooses query.now board.now.setup.capacity (hands seat.old) job.old.right
         (IsGoalOfMember query.now candidate.expr wanted)
         (IsBestOfMember query.now candidate.expr wanted)
         result (hands seat.new) job.new.right }
@@ -111,7 +111,7 @@ fn goal_here<'q>(
     requires candidate { IsPhysicalOf query.now candidate.expr.group candidate }
     requires numbered { IsNumbered query.now wanted.order }
     requires in_range { IsInRange wanted }
-    requires implemented { IsImplemented query.now board.now.key.room
+    requires implemented { IsImplemented query.now board.now.setup.capacity
         (hands seat.old).looks candidate.expr.group }
     ensures seat { IsSeat board.now seat.new }
     ensures looks { OnlyLooks (hands seat.old) (hands seat.new) }

@@ -81,7 +81,7 @@ fn best_mode<'q, H: Hints>(
     requires at_work { IsAtWork query.now board.now seat.old job.old (H.capacity hints.old) }
     requires goal { NamesGoal query.now job.old.right.goal (OptE expr wanted) }
     ensures at_work { IsAtWork query.now board.now seat.new job.new (H.capacity hints.new) }
-    ensures chooses { Chooses query.now board.now.key.room (hands seat.old) job.old.right
+    ensures chooses { Chooses query.now board.now.setup.capacity (hands seat.old) job.old.right
         (IsChildGoal (IsMember query.now) query.now (OptE expr wanted))
         (IsAnswerTo query.now (OptE expr wanted))
         result (hands seat.new) job.new.right }
@@ -126,7 +126,7 @@ fn await_mode<'q, H: Hints>(
     requires alternative { IsAlternative query.now native.expr native.wanted native.mode native.line }
     requires goal { NamesGoal query.now job.old.right.goal (OptE native.expr native.wanted) }
     ensures at_work { IsAtWork query.now board.now seat.new job.new (H.capacity hints.new) }
-    ensures chooses { Chooses query.now board.now.key.room (hands seat.old) job.old.right
+    ensures chooses { Chooses query.now board.now.setup.capacity (hands seat.old) job.old.right
         (IsGoalIn query.now native.expr native.wanted native.mode)
         (IsBestIn query.now native.expr native.wanted native.mode)
         result (hands seat.new) job.new.right }
@@ -159,7 +159,7 @@ fn await_alternative<'q, H: Hints>(
     requires alternative { IsAltBy query.now native.expr native.wanted native.mode alt native.line }
     requires goal { NamesGoal query.now job.old.right.goal (OptE native.expr native.wanted) }
     ensures at_work { IsAtWork query.now board.now seat.new job.new (H.capacity hints.new) }
-    ensures chooses { Chooses query.now board.now.key.room (hands seat.old) job.old.right
+    ensures chooses { Chooses query.now board.now.setup.capacity (hands seat.old) job.old.right
         (IsGoalIn query.now native.expr native.wanted native.mode)
         (IsBestIn query.now native.expr native.wanted native.mode)
         result (hands seat.new) job.new.right }
@@ -195,7 +195,7 @@ fn await_asked<'q, H: Hints>(
     requires at_work { IsAtWork query.now board.now seat.old job.old (H.capacity hints.old) }
     requires asked { IsAskedByChild query.now job.old.right.goal asked }
     ensures at_work { IsAtWork query.now board.now seat.new job.new (H.capacity hints.new) }
-    ensures chooses { Chooses query.now board.now.key.room (hands seat.old) job.old.right
+    ensures chooses { Chooses query.now board.now.setup.capacity (hands seat.old) job.old.right
         (IsGoalAsked query.now asked) (IsBestAsked query.now asked)
         result (hands seat.new) job.new.right }
 {

@@ -35,14 +35,14 @@ pub fn turn<'q, H: Hints>(
     hints: &mut H,
 ) -> Turned
     requires props { IsProps query.now props.now }
-    requires board { board.now.key.rules.query.now ≡ query.now }
+    requires board { board.now.setup.rules.query.now ≡ query.now }
     requires seat { IsSeat board.now seat.old }
     requires right { HasRight board.now seat.old right }
     requires fresh { right.waits ≡ 0 }
     requires worker { worker < 64 }
-    requires hints { H.capacity hints.old ≡ board.now.key.room }
+    requires hints { H.capacity hints.old ≡ board.now.setup.capacity }
     ensures seat { IsSeat board.now seat.new }
-    ensures turns { TurnsGoal query.now board.now.key.room (hands seat.old) right worker
+    ensures turns { TurnsGoal query.now board.now.setup.capacity (hands seat.old) right worker
         result (hands seat.new) }
     ensures hints { H.capacity hints.new ≡ H.capacity hints.old }
 {
@@ -61,7 +61,7 @@ fn goal_of<'q>(
     job: &Job,
 ) -> GoalKind
     requires props { IsProps query.now props.now }
-    requires board { board.now.key.rules.query.now ≡ query.now }
+    requires board { board.now.setup.rules.query.now ≡ query.now }
     requires right { HasRight board.now seat.now job.now.right }
     ensures { NamesGoal query.now job.now.right.goal result }
 {

@@ -77,9 +77,9 @@ fn best_plan<'q, H: Hints>(
     requires props { IsProps query.now props.now }
     requires at_work { IsAtWork query.now board.now seat.old job.old (H.capacity hints.old) }
     requires goal { NamesGoal query.now job.old.right.goal (Opt group wanted) }
-    requires implemented { IsImplemented query.now board.now.key.room (hands seat.old).looks group }
+    requires implemented { IsImplemented query.now board.now.setup.capacity (hands seat.old).looks group }
     ensures at_work { IsAtWork query.now board.now seat.new job.new (H.capacity hints.new) }
-    ensures chooses { Chooses query.now board.now.key.room (hands seat.old) job.old.right
+    ensures chooses { Chooses query.now board.now.setup.capacity (hands seat.old) job.old.right
         (IsPlanGoal query.now group wanted) (IsBest query.now group wanted all_nodes)
         result (hands seat.new) job.new.right }
 {

@@ -274,7 +274,7 @@ fn put_with_members<'q>(
     requires known { IsGroup query.now group }
     requires e { IsCandidate query.now e }
     requires shown { (bound : Parts) → IsLogicalIn (IsMember query.now) group bound →
-        ShowsEntry (meaning_of query.now) board.now.key.room (hands seat.old).looks (word_of bound) }
+        ShowsEntry (meaning_of query.now) board.now.setup.capacity (hands seat.old).looks (word_of bound) }
     requires asked { (bound other : Parts) → IsLogicalIn (IsMember query.now) group bound →
         IsBroughtWith query.now rule e (Some bound) other → IsAskedOf query.now job.now.right.goal other }
     ensures has_job { HasJob query.now board.now seat.new job.now }

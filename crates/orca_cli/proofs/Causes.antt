@@ -96,7 +96,8 @@ module _ (one : OneAnswer) (outcomes : OneText) (named : Option AnyCommand) (she
           → (command : AnyCommand) × (files : ListNames) × (named ≡ Some command) × (command.task ≡ batch files)
       of_named None same (whole text run taken) = let other : Usage ≡ BatchRefused = sym run.0.0 ∙ is in cc
       of_named (Some command) same (whole text ending taken) =
-          let (files, task) = list_of command.task shelf status (ended_by command shelf empty note status text ending) is
+          let (files, task) = list_of command.task shelf status (ended_by command shelf empty note status text ending)
+          is
           in (command, files, same, task)
       of_named n same (cut_short fault rose ended text ending taken) = cc
       of_named n same (nothing memory kept) = cc
@@ -109,7 +110,8 @@ module _ (one : OneAnswer) (outcomes : OneText) (named : Option AnyCommand) (she
           → (command : AnyCommand) × (files : PlanNames) × (named ≡ Some command) × (command.task ≡ check files)
       of_named None same (whole text run taken) = let other : Usage ≡ PlanRefused = sym run.0.0 ∙ is in cc
       of_named (Some command) same (whole text ending taken) =
-          let (files, task) = plan_text_of command.task shelf status (ended_by command shelf empty note status text ending)
+          let (files, task) = plan_text_of command.task shelf status
+          (ended_by command shelf empty note status text ending)
           is in (command, files, same, task)
       of_named n same (cut_short fault rose ended text ending taken) = cc
       of_named n same (nothing memory kept) = cc

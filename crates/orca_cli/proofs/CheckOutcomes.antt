@@ -48,7 +48,8 @@ module _ (named : PlanNames) (choices : Choices) (held : List ℕ → Option (Li
       (told_one (held named.files.catalog) other bytes told o.catalog_told) none)
   of_query_stop (by_file catalog offers (unread is)) = absurd (o.were_read is.fault)
   of_query_stop (by_file catalog offers (unusable other told why)) =
-      without_query catalog (says_there catalog offers) (subst (λ t. IsQueryRefused catalog choices.options t status text)
+      without_query catalog (says_there catalog offers) (subst
+      (λ t. IsQueryRefused catalog choices.options t status text)
       (told_one (held named.files.query) other asked told o.query_told) why)
 
   of_stop : CheckStops named choices.options (reads held o.before o.after) status text
@@ -89,7 +90,8 @@ module _ (one : OneAnswer) (outcomes : OneText) (bytes : List ℕ) (options : Op
       let here = subst (λ c. Asks c options asked r) (one_catalog bytes l k says_too says) asks in
       absurd (never_refused one.reading k options asked r why.cause here why.no_query)
   same_checks (without_query k says why) (without_query l says_too why_too) =
-      let here = subst (λ c. IsQueryRefused c options asked second other) (one_catalog bytes l k says_too says) why_too in (
+      let here = subst (λ c. IsQueryRefused c options asked second other) (one_catalog bytes l k says_too says)
+      why_too in (
         why.refused ∙ sym here.refused,
         why.line ∙ ap texts.query_refused
             (one_cause one.reading k options asked why.cause here.cause why.no_query here.no_query) ∙ sym here.line,

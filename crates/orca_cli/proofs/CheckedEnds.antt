@@ -28,7 +28,8 @@ OneText = (q : Query) → OutcomesAreOne q
 
 module _ (one : OneText) (q : Query) (plan : List ℕ) where
   -- a good text has no fault
-  good_or_not : (cost : ℕ) (fault : TextFault) → fault ≢ faults.Memory → IsGoodText q plan cost → HasFault q plan fault → ⊥
+  good_or_not : (cost : ℕ) (fault : TextFault) → fault ≢ faults.Memory → IsGoodText q plan cost
+      → HasFault q plan fault → ⊥
   good_or_not cost fault lasts good has =
       let same : ◌≡◌ {A = Result ℕ TextFault} (Ok cost) (Err fault) =
       one q plan (Ok cost) (Err fault) (λ s. cc) (λ s. lasts (err_same s)) good has in
@@ -47,7 +48,8 @@ module _ (one : OneText) (q : Query) (plan : List ℕ) where
       → HasFault q plan other → fault ≡ other
   one_fault fault other lasts lasts_too has again =
       let same : ◌≡◌ {A = Result ℕ TextFault} (Err fault) (Err other) =
-      one q plan (Err fault) (Err other) (λ s. lasts (err_same fault s)) (λ s. lasts_too (err_same other s)) has again in
+      one q plan (Err fault) (Err other) (λ s. lasts (err_same fault s)) (λ s. lasts_too (err_same other s)) has again
+      in
       cc
     where
       err_same : (f : TextFault) → ◌≡◌ {A = Result ℕ TextFault} (Err f) (Err faults.Memory) → f ≡ faults.Memory
@@ -63,11 +65,12 @@ module _ (one : OneText) (q : Query) (plan : List ℕ) where
       absurd (good_or_not cost fault lasts good has)
   one_check first second text other (faulty is fault lasts has line) (priced is_too cost good line_too) =
       absurd (good_or_not cost fault lasts good has)
-  one_check first second text other (faulty is fault lasts has line) (faulty is_too fault_too lasts_too has_too line_too) = (
-    is ∙ sym is_too,
-    line ∙ ap (λ f. texts.plan_refused (texts.plan_cause f)) (one_fault fault fault_too lasts lasts_too has has_too)
-        ∙ sym line_too,
-  )
+  one_check first second text other (faulty is fault lasts has line)
+      (faulty is_too fault_too lasts_too has_too line_too) = (
+        is ∙ sym is_too,
+        line ∙ ap (λ f. texts.plan_refused (texts.plan_cause f)) (one_fault fault fault_too lasts lasts_too has has_too)
+            ∙ sym line_too,
+      )
 
   -- a good text is accepted
   pub accepted : (cost : ℕ) (status : Status) (text : List ℕ) → IsGoodText q plan cost → IsCheckEnd q plan status text
@@ -76,7 +79,8 @@ module _ (one : OneText) (q : Query) (plan : List ℕ) where
   accepted cost status text good (faulty is fault lasts has line) = absurd (good_or_not cost fault lasts good has)
 
   -- and one with a fault is refused
-  pub turned_down : (fault : TextFault) (status : Status) (text : List ℕ) → fault ≢ faults.Memory → HasFault q plan fault
+  pub turned_down : (fault : TextFault) (status : Status) (text : List ℕ) → fault ≢ faults.Memory
+      → HasFault q plan fault
       → IsCheckEnd q plan status text → IsOneOf plan_turned_down status
   turned_down fault status text lasts has (priced is cost good line) = absurd (good_or_not cost fault lasts good has)
   turned_down fault status text lasts has (faulty is other lasts_too has_too line) = inl is

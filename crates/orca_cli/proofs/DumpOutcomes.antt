@@ -37,7 +37,8 @@ data KnownReplay (bytes : List ℕ) (workers : ℕ) (note : Note) (status : Stat
 
 known_replay : (file : List ℕ) (choices : Choices) (held : List ℕ → Option (List ℕ)) (bytes : List ℕ) (status : Status)
     (text : List ℕ) → (o : ReplayOutcome file choices held bytes status text)
-    → IsEnding (record { task = replay file; choices = choices }) (reads held o.before o.after) o.empty o.note status text
+    → IsEnding (record { task = replay file; choices = choices }) (reads held o.before o.after) o.empty o.note status
+    text
     → KnownReplay bytes choices.workers o.note status text
 known_replay file choices held bytes status text o (answered query asks search) = absurd asks
 known_replay file choices held bytes status text o (from_dump other task end) =
@@ -64,7 +65,8 @@ over_dump : OneOf → (of_bytes : Dump) (workers more : ℕ) (note later : Note)
     → Known of_bytes.catalog (replay_choices of_bytes.options more) of_bytes.query later second other
     → (first ≡ second) × (text ≡ other)
 over_dump one of_bytes workers more note later first second text other is again =
-    let same = same_known one of_bytes.catalog (replay_choices of_bytes.options 1) workers more of_bytes.query note later
+    let same = same_known one of_bytes.catalog (replay_choices of_bytes.options 1) workers more of_bytes.query note
+    later
     first second text other is again in
     (same.status, equal_texts (replay_choices of_bytes.options 1) workers more text other refl same.texts)
 
@@ -76,7 +78,8 @@ module _ (one : OneOf) (dumps_one : OneDump) where
   replays_as_planned file files choices workers held told bytes of_bytes first second text other says o plan =
       of_known (known_replay file choices held bytes first text o o.ends)
     where
-      planned_too : Known of_bytes.catalog (replay_choices of_bytes.options workers) of_bytes.query plan.note second other
+      planned_too : Known of_bytes.catalog (replay_choices of_bytes.options workers) of_bytes.query plan.note second
+          other
       planned_too = known_of files (replay_choices of_bytes.options workers) told of_bytes.catalog of_bytes.query second
           other plan plan.ends
 
@@ -97,14 +100,16 @@ module _ (one : OneOf) (dumps_one : OneDump) where
           → KnownReplay bytes others.workers again.note second other → (first ≡ second) × (text ≡ other)
       of_known (of_dump a says is) (of_dump b says_too is_too) =
           over_dump one a choices.workers others.workers o.note again.note first second text other is
-          (subst (λ (d : Dump). Known d.catalog (replay_choices d.options others.workers) d.query again.note second other)
+          (subst (λ (d : Dump). Known d.catalog (replay_choices d.options others.workers) d.query again.note second
+          other)
           (one_dump dumps_one bytes b a says_too says) is_too)
       of_known (of_dump a says is) (of_none none) = absurd (dump_or_none dumps_one bytes none.cause a says none.no_dump)
       of_known (of_none none) (of_dump b says is) = absurd (dump_or_none dumps_one bytes none.cause b says none.no_dump)
       of_known (of_none none) (of_none none_too) = (
         none.refused ∙ sym none_too.refused,
         none.line
-            ∙ ap texts.dump_refused (one_no_dump dumps_one bytes none.cause none_too.cause none.no_dump none_too.no_dump)
+            ∙ ap texts.dump_refused (one_no_dump dumps_one bytes none.cause none_too.cause none.no_dump
+            none_too.no_dump)
             ∙ sym none_too.line,
       )
 
@@ -167,7 +172,8 @@ dumps_replay one dumps_one binds bound files others file choices later workers h
     whole_known : Known of_bytes.catalog (chosen later.workers) asked again.note first text
         → Known bytes (chosen later.workers) asked again.note first text
     whole_known (over catalog says answer) =
-        let same = one_catalog of_bytes.catalog catalog (named_catalog is.select is.catalog) says is.is_dump.catalogue in
+        let same = one_catalog of_bytes.catalog catalog (named_catalog is.select is.catalog) says is.is_dump.catalogue
+        in
         over is.catalog is.says (whole_answer binds bound one.answer is.select is.catalog (chosen later.workers)
         asked is.reading again.note first text
         (subst (λ k. IsAnswer k (chosen later.workers) asked again.note first text) same answer))
@@ -178,7 +184,8 @@ dumps_replay one dumps_one binds bound files others file choices later workers h
     of_known (of_dump a says answer) =
         let same = one_dump dumps_one dumped a of_bytes says (is.is_dump.short, is.is_dump.says) in
         let here : Known of_bytes.catalog (chosen later.workers) asked again.note first text =
-        subst (λ (d : Dump). Known d.catalog (replay_choices d.options later.workers) d.query again.note first text) same
+        subst (λ (d : Dump). Known d.catalog (replay_choices d.options later.workers) d.query again.note first text)
+        same
         answer in
         let ends = same_known one bytes (chosen 1) later.workers workers asked again.note plan.note first second
         text other (whole_known here)

@@ -57,7 +57,8 @@ never_asks one of_bytes query none asks =
     never_refused one.reading none.catalog of_bytes.options.options of_bytes.query query none.cause
     (subst (λ k. Asks k of_bytes.options.options of_bytes.query query) same asks.asks) none.refused
 
-module _ (one : OneAnswer) (dumps_one : OneDump) (bytes : List ℕ) (of_bytes : Dump) (says : IsReadAs bytes (Ok of_bytes))
+module _ (one : OneAnswer) (dumps_one : OneDump) (bytes : List ℕ) (of_bytes : Dump)
+    (says : IsReadAs bytes (Ok of_bytes))
     (workers : ℕ) (note : Note) (status : Status) (text : List ℕ) where
   -- bytes that say a dump are refused only where the dump asks for nothing
   asks_nothing : IsReplayRefused bytes status text → AsksNothing of_bytes status text

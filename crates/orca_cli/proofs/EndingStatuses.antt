@@ -24,7 +24,8 @@ use Rattle.orca_cli.proofs.StagedEnds.{staged_status}
 -- ---- the statuses of endings
 
 -- a search ends with one of three statuses
-pub search_status : (Tells : List ℕ → List ℕ → Type 0) (choices : Choices) (query : Query) (note : Note) (status : Status)
+pub search_status : (Tells : List ℕ → List ℕ → Type 0) (choices : Choices) (query : Query) (note : Note)
+    (status : Status)
     (text : List ℕ) → IsSearchEnd Tells choices query note status text → IsOneOf searched status
 search_status Tells choices query note status text (planned is room lines is_plan goes notes) = inl is
 search_status Tells choices query note status text (unplanned is room impossible goes notes) = inr (inl is)

@@ -1,5 +1,6 @@
 -- What a file's bytes say, and how a run ends that can't go on with them.
-use Rattle.std.proofs.Common.{◌≡◌, ◌≢◌, ℕ, ◌+◌, ◌<◌, ◌≤◌, ◌^◌, List, length, Option, None, Some, Result, Err, IfErr, codes, nat_lt, true, false}
+use Rattle.std.proofs.Common.{◌≡◌, ◌≢◌, ℕ, ◌+◌, ◌<◌, ◌≤◌, ◌^◌, List, length}
+use Rattle.std.proofs.Common.{Option, None, Some, Result, Err, IfErr, codes, nat_lt, true, false}
 use Rattle.std.proofs.Common.{refl, sym, subst, ap, arith, inl, inr}
 use Rattle.std.specs.Prelude.{replicate}
 use Rattle.std.proofs.lemmas.Bool.{lt-ltb}
@@ -27,9 +28,11 @@ use Rattle.request_props.specs.declared.fault.PropsFault.TheVariants as limits
 use Rattle.text_check.specs.declared.text_fault.TextFault.TheVariants as plans
 use Rattle.command_line.specs.Command.{FileNames}
 use Rattle.orca_cli.specs.Asked.{IsNoCatalog, IsBoundAs, IsUnread, IsUnbound, IsUnnumbered, IsRefused}
-use Rattle.orca_cli.specs.Prepared.{Reads, reads, AreTold, Offers, IsAskedAt, FilesAsk, IsCatalogRefused, IsQueryRefused}
+use Rattle.orca_cli.specs.Prepared.{Reads, reads, AreTold, Offers}
+use Rattle.orca_cli.specs.Prepared.{IsAskedAt, FilesAsk, IsCatalogRefused, IsQueryRefused}
 use Rattle.orca_cli.specs.Lists.{lines_of, are_too_many, IsListRefused}
-use Rattle.orca_cli.specs.Prepared.{IsReadFault, IsPlanTooLong, FileStops, unread, unusable, FilesStop, by_catalog, by_file}
+use Rattle.orca_cli.specs.Prepared.{IsReadFault, IsPlanTooLong, FileStops, unread}
+use Rattle.orca_cli.specs.Prepared.{unusable, FilesStop, by_catalog, by_file}
 use Rattle.orca_cli.specs.Texts as texts
 use Rattle.orca_cli.specs.Views.{EndsAs, EndsWith, text_of}
 use Rattle.orca_cli.specs.declared.ending.End.{End}
@@ -221,7 +224,8 @@ first_stops Refuses catalog_name name shelf end =
 
 -- two files of which the second one stops the run
 pub second_stops : {A : Type 0} (Refuses : Catalog → List ℕ → Status → List ℕ → Type 0) (catalog_name name : List ℕ)
-    (held told : List ℕ → Option (List ℕ)) (before middle after : List ℕ → ℕ) (catalog : Catalog) (result : Result A End)
+    (held told : List ℕ → Option (List ℕ)) (before middle after : List ℕ → ℕ) (catalog : Catalog)
+    (result : Result A End)
     → Offers (held catalog_name) catalog → told name ≡ held name → ((n : List ℕ) → before n ≤ middle n)
     → IfErr result (EndsWith (FileStops (Refuses catalog) name (reads told middle after)))
     → IfErr result (EndsWith (FilesStop Refuses catalog_name name (reads held before after)))

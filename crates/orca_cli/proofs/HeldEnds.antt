@@ -47,7 +47,8 @@ module _ (one : OneAnswer) (command : AnyCommand) (shelf : Reads) (empty note : 
     where
       of_ending : IsEnding command shelf empty note status text → IsOneOf finished status
       of_ending (answered query asks found) =
-          of_search status (search_status (Tells (generated_in command.task) command.choices query) command.choices query
+          of_search status (search_status (Tells (generated_in command.task) command.choices query) command.choices
+          query
           note status text found)
       of_ending (from_dump file is end) = let other : gen input ≡ replay file = sym task ∙ is in cc
       of_ending (own_end own kept) = absurd (subst (λ k. IsOwnEnd k command.choices shelf.held status text) task own)
@@ -168,7 +169,8 @@ module _ (one : OneAnswer) (shelf : Reads) (empty note : Note) where
       as (λ _. s ≡ QueryRefused) [
         | inl why ↦ why.refused
         | inr end ↦
-            absurd (never_refused one.reading here.catalog choices.options here.text end.0 here.cause end.1 here.refused)
+            absurd (never_refused one.reading here.catalog choices.options here.text end.0 here.cause end.1
+            here.refused)
       ]
   refused_query_there (gen input) choices files names held no_read s t ending = cc
   refused_query_there (check own) choices files names held no_read s t ending =

@@ -1,5 +1,6 @@
 -- The endings of lines, and the text of a batch that is made of them.
-use Rattle.std.proofs.Common.{◌≡◌, ℕ, suc, ◌+◌, List, [], ◌∷◌, ◌++◌, length, map, Some, None, Vec, refl, sym, ap, ◌∙◌, arith}
+use Rattle.std.proofs.Common.{◌≡◌, ℕ, suc, ◌+◌, List, [], ◌∷◌, ◌++◌, length}
+use Rattle.std.proofs.Common.{map, Some, None, Vec, refl, sym, ap, ◌∙◌, arith}
 use Rattle.std.proofs.Common.{append_assoc, subst}
 use Rattle.std.specs.Prelude.{slice_get, vec_len}
 use Rattle.std.proofs.lemmas.List.{append-nil, length-map, map-append}

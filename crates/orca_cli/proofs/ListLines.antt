@@ -18,7 +18,8 @@ is_false true never = absurd (never refl)
 is_false false never = refl
 
 -- a byte that is no line feed stands in front of the first line
-in_front : (byte : ℕ) (more : List ℕ) → ((byte == 10) ≡ true → ⊥) → lines_of (byte ∷ more) ≡ with_byte byte (lines_of more)
+in_front : (byte : ℕ) (more : List ℕ) → ((byte == 10) ≡ true → ⊥)
+    → lines_of (byte ∷ more) ≡ with_byte byte (lines_of more)
 in_front byte more never = rw (is_false (byte == 10) never) refl
 
 -- what stands behind a line, and begins with a line feed

@@ -24,7 +24,8 @@ module _ (binds : BindsAlike) (bound : BoundAlike) (one : OneAnswer) (select : S
       subst (λ s. IsBound s (named_catalog select catalog) options query) same is.bound in
       record { select = select; reading = reading; bound = (bound select catalog options query).0 here }
 
-  whole_asks : (query : Query) → Asks (named_catalog select catalog) options asked query → Asks catalog options asked query
+  whole_asks : (query : Query) → Asks (named_catalog select catalog) options asked query
+      → Asks catalog options asked query
   whole_asks query asks = record { bound = whole_bound query asks.bound; within = asks.within }
 
   whole_refused : (cause : List ℕ) → IsRefused (named_catalog select catalog) options asked cause

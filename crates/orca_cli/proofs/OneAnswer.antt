@@ -142,12 +142,14 @@ staged_of named choices shelf catalog asked holds note status text empty no_read
 pub record OneAnswer : Type 0 where
   pub reading : OneReading
   pub links : OneLinks
-  pub room : (q : Query) (cap : ℕ) (members goals : List ℕ) → FitsIn q cap members goals → HasMoreEntries q cap → ⊥
+  pub room : (q : Query) (capacity : ℕ) (members goals : List ℕ) → FitsIn q capacity members goals
+      → HasMoreEntries q capacity → ⊥
 
 pub one_answer_of : ((text : List ℕ) (a b : Select) → IsReading text a → IsReading text b → a ≡ b)
     → ((text : List ℕ) (f g : SqlFault) → IsFirst text f → IsFirst text g → f ≡ g)
     → ((text : List ℕ) (select : Select) (f : SqlFault) → IsReading text select → IsFirst text f → ⊥) → OneLinks
-    → ((q : Query) (cap : ℕ) (members goals : List ℕ) → FitsIn q cap members goals → HasMoreEntries q cap → ⊥)
+    → ((q : Query) (capacity : ℕ) (members goals : List ℕ) → FitsIn q capacity members goals
+    → HasMoreEntries q capacity → ⊥)
     → OneAnswer
 one_answer_of reading fault either links room =
     record { reading = record { reading = reading; fault = fault; either = either }; links = links; room = room }

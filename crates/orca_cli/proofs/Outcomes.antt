@@ -83,7 +83,8 @@ module _ (one : OneOf) (catalog : Catalog) (choices : Choices) (workers more : �
       asks_too.bound in
       let (status, texts) = one_search one q asks.within choices workers more (Tells None (by workers choices) q)
       (Tells None (by more choices) q) (SameTexts choices workers more)
-      (λ lines t o goes goes_too. sections_same choices workers more q one.sections lines lines t o asks.within refl goes
+      (λ lines t o goes goes_too. sections_same choices workers more q one.sections lines lines t o asks.within refl
+      goes
       goes_too)
       (same_texts choices workers more) note later first second text other is
       (subst (λ q. IsSearchEnd (Tells None (by more choices) q) (by more choices) q later second other) (sym same)
@@ -103,7 +104,8 @@ module _ (one : OneOf) (catalog : Catalog) (choices : Choices) (workers more : �
       }
 
 -- how a run over known bytes ends
-pub data Known (bytes : List ℕ) (choices : Choices) (asked : List ℕ) (note : Note) (status : Status) (text : List ℕ) : Type 0
+pub data Known (bytes : List ℕ) (choices : Choices) (asked : List ℕ) (note : Note) (status : Status) (text : List ℕ) :
+    Type 0
   where
     over : (catalog : Catalog) → SaysCatalog bytes catalog → IsAnswer catalog choices asked note status text
         → Known bytes choices asked note status text
@@ -121,7 +123,8 @@ never_fault status (inr (inr (inr (inr (inr none))))) fault = absurd none
 -- what the shelf tells of both files
 pub known_of : (files : FileNames) (choices : Choices) (held : List ℕ → Option (List ℕ)) (bytes asked : List ℕ)
     (status : Status) (text : List ℕ) → (o : Outcome files choices held bytes asked status text)
-    → IsEnding (record { task = plan files; choices = choices }) (reads held o.before o.after) o.empty o.note status text
+    → IsEnding (record { task = plan files; choices = choices }) (reads held o.before o.after) o.empty o.note status
+    text
     → Known bytes choices asked o.note status text
 known_of files choices held bytes asked status text o (answered query asks search) =
     over asks.catalog (subst (λ b. SaysCatalog b asks.catalog)
@@ -189,7 +192,8 @@ one_generated_of answer sections least input choices workers more first second t
     of_endings is.ends again.ends
   where
     of_endings : IsEnding (record { task = gen input; choices = by workers choices }) is.shelf is.empty is.note first
-        text → IsEnding (record { task = gen input; choices = by more choices }) again.shelf again.empty again.note second
+        text → IsEnding (record { task = gen input; choices = by more choices }) again.shelf again.empty again.note
+        second
         other → (first ≡ second) × (text ≡ other)
     of_endings (answered q made search) (answered r made_too search_too) =
         let same : q ≡ r = one_generated answer input choices.options q r made made_too in

@@ -17,7 +17,8 @@ use Rattle.plan_lines.specs.Found.{IsFoundText}
 use Rattle.plan_lines.specs.Text.{plan_section}
 use Rattle.stage_plan.specs.Laws.{HasOneStaging, PlansAreOfStages}
 use Rattle.stage_plan.specs.Stages.{query_in, IsPlanIn}
-use Rattle.stage_plan.specs.StagedRuns.{StagedAnswer, planned, unplanned, too_many, IsStaging, Answers, full, enough, least}
+use Rattle.stage_plan.specs.StagedRuns.{StagedAnswer, planned, unplanned, too_many}
+use Rattle.stage_plan.specs.StagedRuns.{IsStaging, Answers, full, enough, least}
 use Rattle.stage_plan.specs.StagedRuns.{none, Tells, IsStagedRun, IsPlanAt}
 use Rattle.stage_plan.specs.declared.staged.Staged.TheVariants as staged
 use Rattle.command_line.specs.HeldStages.{stage_read}
@@ -33,29 +34,29 @@ use Rattle.orca_cli.proofs.OneAnswer.{OneAnswer, room_or_more}
 
 -- ---- how it is made
 
-module _ (q : Query) (cap : ℕ) (stages : List Stage) (ran : List (Option ℕ)) where
+module _ (q : Query) (capacity : ℕ) (stages : List Stage) (ran : List (Option ℕ)) where
   -- the plan that was found, as a tree, and the stage of which it is the least one
   pub record IsFoundAt (number : ℕ) (plan : Plan) (cost : ℕ) : Type 0 where
     pub tree : Tree
     pub spells : Spells plan tree
     pub costs : cost ≡ cost_of q tree
     pub at : IsPlanAt q stages number tree
-    pub staging : IsStaging q cap stages ran (planned number tree)
+    pub staging : IsStaging q capacity stages ran (planned number tree)
 
   pub found_at : ((q : Query) → PlansAreOfStages q) → (number : ℕ) (plan : Plan) (cost : ℕ)
-      → IsStagedRun q cap stages (record { found = staged.Least number plan cost; ran = ran })
+      → IsStagedRun q capacity stages (record { found = staged.Least number plan cost; ran = ran })
       → IsFoundAt number plan cost
   found_at of_stages number plan cost run = of_answer run.answer run.tells run.staging
     where
       of_answer : (answer : StagedAnswer) → Tells q (staged.Least number plan cost) answer
-          → IsStaging q cap stages ran answer → IsFoundAt number plan cost
+          → IsStaging q capacity stages ran answer → IsFoundAt number plan cost
       of_answer (planned n tree) tells staging =
-          let here = subst (λ k. IsStaging q cap stages ran (planned k tree)) (sym tells.0) staging in
+          let here = subst (λ k. IsStaging q capacity stages ran (planned k tree)) (sym tells.0) staging in
           record {
             tree = tree;
             spells = tells.1;
             costs = tells.2;
-            at = of_stages q cap stages ran number tree here;
+            at = of_stages q capacity stages ran number tree here;
             staging = here;
           }
       of_answer unplanned tells staging = absurd tells
@@ -66,7 +67,7 @@ module _ (q : Query) (cap : ℕ) (stages : List Stage) (ran : List (Option ℕ))
     pub least_end : (number : ℕ) (plan : Plan) (cost : ℕ) (stage : Stage) (lines : List ℕ)
         → IsFoundAt number plan cost → slice_get stages number ≡ Some stage
         → IsFoundText (query_in q stage) (founds.Least plan cost) lines → status ≡ Planned
-        → text ≡ stage_lines ran ++ lines → IsStagedEnd q cap asked status text
+        → text ≡ stage_lines ran ++ lines → IsStagedEnd q capacity asked status text
     least_end number plan cost stage lines found there is_text planned_so is =
         let stands = found.at.there in
         let same : found.at.stage ≡ stage = cc in
@@ -83,13 +84,13 @@ module _ (q : Query) (cap : ℕ) (stages : List Stage) (ran : List (Option ℕ))
         }
 
     -- the end without one
-    pub none_end : (lines : List ℕ) → IsStagedRun q cap stages (record { found = staged.NoPlan; ran = ran })
+    pub none_end : (lines : List ℕ) → IsStagedRun q capacity stages (record { found = staged.NoPlan; ran = ran })
         → lines ≡ texts.no_plan → status ≡ NoPlan → text ≡ stage_lines ran ++ lines
-        → IsStagedEnd q cap asked status text
+        → IsStagedEnd q capacity asked status text
     none_end lines run printed unplanned_so is = of_answer run.answer run.tells run.staging
       where
-        of_answer : (answer : StagedAnswer) → Tells q staged.NoPlan answer → IsStaging q cap stages ran answer
-            → IsStagedEnd q cap asked status text
+        of_answer : (answer : StagedAnswer) → Tells q staged.NoPlan answer → IsStaging q capacity stages ran answer
+            → IsStagedEnd q capacity asked status text
         of_answer (planned n tree) tells staging = absurd tells
         of_answer unplanned tells staging = record {
           stages = stages;
@@ -102,12 +103,13 @@ module _ (q : Query) (cap : ℕ) (stages : List Stage) (ran : List (Option ℕ))
         of_answer (too_many n) tells staging = absurd tells
 
     -- the end for want of room
-    pub full_end : (number : ℕ) → IsStagedRun q cap stages (record { found = staged.Full number; ran = ran })
-        → status ≡ TooManyEntries → text ≡ texts.too_many_entries cap → IsStagedEnd q cap asked status text
+    pub full_end : (number : ℕ) → IsStagedRun q capacity stages (record { found = staged.Full number; ran = ran })
+        → status ≡ TooManyEntries → text ≡ texts.too_many_entries capacity → IsStagedEnd q capacity asked status text
     full_end number run full_so is = of_answer run.answer run.tells run.staging
       where
-        of_answer : (answer : StagedAnswer) → Tells q (staged.Full number) answer → IsStaging q cap stages ran answer
-            → IsStagedEnd q cap asked status text
+        of_answer : (answer : StagedAnswer) → Tells q (staged.Full number) answer
+            → IsStaging q capacity stages ran answer
+            → IsStagedEnd q capacity asked status text
         of_answer (planned n tree) tells staging = absurd tells
         of_answer unplanned tells staging = absurd tells
         of_answer (too_many n) tells staging = record {
@@ -122,11 +124,11 @@ module _ (q : Query) (cap : ℕ) (stages : List Stage) (ran : List (Option ℕ))
 -- ---- its status
 
 -- the query has an answer, or there is no room for it
-pub staged_status : (q : Query) (cap : ℕ) (asked : List AnyStage) (status : Status) (text : List ℕ)
-    → IsStagedEnd q cap asked status text → IsOneOf searched status
-staged_status q cap asked status text end = of_answer end.answer end.told
+pub staged_status : (q : Query) (capacity : ℕ) (asked : List AnyStage) (status : Status) (text : List ℕ)
+    → IsStagedEnd q capacity asked status text → IsOneOf searched status
+staged_status q capacity asked status text end = of_answer end.answer end.told
   where
-    of_answer : (answer : StagedAnswer) → TellsAnswer q cap end.costs answer status text → IsOneOf searched status
+    of_answer : (answer : StagedAnswer) → TellsAnswer q capacity end.costs answer status text → IsOneOf searched status
     of_answer (planned number plan) told = inl told.0
     of_answer unplanned told = inr (inl told.0)
     of_answer (too_many number) told = inr (inr (inl told.0))
@@ -137,9 +139,9 @@ last_room P [] rest last all = All-head P last rest all
 last_room P (first ∷ before) rest last all = last_room P before rest last (All-tail P first (before ++ last ∷ rest) all)
 
 -- with room in each stage there is an answer
-pub settled_stages : OneAnswer → (q : Query) (cap : ℕ) (asked : List AnyStage) (status : Status) (text : List ℕ)
-    → HaveRoom q cap asked → IsStagedEnd q cap asked status text → IsOneOf settled status
-settled_stages one q cap asked status text room end =
+pub settled_stages : OneAnswer → (q : Query) (capacity : ℕ) (asked : List AnyStage) (status : Status) (text : List ℕ)
+    → HaveRoom q capacity asked → IsStagedEnd q capacity asked status text → IsOneOf settled status
+settled_stages one q capacity asked status text room end =
     of_answers end.answer end.told end.staging.answers
   where
     last : Stage
@@ -148,19 +150,19 @@ settled_stages one q cap asked status text room end =
     before : List Stage
     before = end.staging.before
 
-    has_room : HasRoom (query_in q last) cap
-    has_room = last_room (λ stage. HasRoom (query_in q stage) cap) before end.staging.run.rest last
-        (subst (All (λ stage. HasRoom (query_in q stage) cap)) end.staging.run.all (room end.stages end.are_asked))
+    has_room : HasRoom (query_in q last) capacity
+    has_room = last_room (λ stage. HasRoom (query_in q stage) capacity) before end.staging.run.rest last
+        (subst (All (λ stage. HasRoom (query_in q stage) capacity)) end.staging.run.all (room end.stages end.are_asked))
 
-    of_answers : (answer : StagedAnswer) → TellsAnswer q cap end.costs answer status text
-        → Answers q cap before last end.costs answer → IsOneOf settled status
-    of_answers answer told (full more are is) = absurd (room_or_more one (query_in q last) cap has_room more)
+    of_answers : (answer : StagedAnswer) → TellsAnswer q capacity end.costs answer status text
+        → Answers q capacity before last end.costs answer → IsOneOf settled status
+    of_answers answer told (full more are is) = absurd (room_or_more one (query_in q last) capacity has_room more)
     of_answers answer told (enough some plan its is) =
-        inl (subst (λ a. TellsAnswer q cap end.costs a status text) is told).0
+        inl (subst (λ a. TellsAnswer q capacity end.costs a status text) is told).0
     of_answers answer told (least some nor number plan its is) =
-        inl (subst (λ a. TellsAnswer q cap end.costs a status text) is told).0
+        inl (subst (λ a. TellsAnswer q capacity end.costs a status text) is told).0
     of_answers answer told (none some its is) =
-        inr (inl (subst (λ a. TellsAnswer q cap end.costs a status text) is told).0)
+        inr (inl (subst (λ a. TellsAnswer q capacity end.costs a status text) is told).0)
 
 -- ---- one end
 
@@ -185,26 +187,27 @@ stages_same (s ∷ some) (t ∷ others) same =
     λ i. one i ∷ more i
 
 -- what is told of one answer is one
-told_one_way : (q : Query) (cap : ℕ) (costs : List (Option ℕ)) (answer : StagedAnswer) (first second : Status)
-    (text other : List ℕ) → TellsAnswer q cap costs answer first text → TellsAnswer q cap costs answer second other
+told_one_way : (q : Query) (capacity : ℕ) (costs : List (Option ℕ)) (answer : StagedAnswer) (first second : Status)
+    (text other : List ℕ) → TellsAnswer q capacity costs answer first text
+    → TellsAnswer q capacity costs answer second other
     → (first ≡ second) × (text ≡ other)
-told_one_way q cap costs (planned number plan) first second text other told again =
+told_one_way q capacity costs (planned number plan) first second text other told again =
     (told.0 ∙ sym again.0, told.1 ∙ sym again.1)
-told_one_way q cap costs unplanned first second text other told again =
+told_one_way q capacity costs unplanned first second text other told again =
     (told.0 ∙ sym again.0, told.1 ∙ sym again.1)
-told_one_way q cap costs (too_many number) first second text other told again =
+told_one_way q capacity costs (too_many number) first second text other told again =
     (told.0 ∙ sym again.0, told.1 ∙ sym again.1)
 
 -- one query ends in one way in the same stages
-pub one_staged_end : ((q : Query) → HasOneStaging q) → (q : Query) → IsWithinLimits q → (cap : ℕ)
-    → (asked : List AnyStage) (first second : Status) (text other : List ℕ) → IsStagedEnd q cap asked first text
-    → IsStagedEnd q cap asked second other → (first ≡ second) × (text ≡ other)
-one_staged_end one q within cap asked first second text other end again =
+pub one_staged_end : ((q : Query) → HasOneStaging q) → (q : Query) → IsWithinLimits q → (capacity : ℕ)
+    → (asked : List AnyStage) (first second : Status) (text other : List ℕ) → IsStagedEnd q capacity asked first text
+    → IsStagedEnd q capacity asked second other → (first ≡ second) × (text ≡ other)
+one_staged_end one q within capacity asked first second text other end again =
     let same = stages_same end.stages again.stages (end.are_asked ∙ sym again.are_asked) in
-    let staging : IsStaging q cap end.stages again.costs again.answer =
-    subst (λ some. IsStaging q cap some again.costs again.answer) (sym same) again.staging in
-    let (costs, answer) = one q within cap end.stages end.costs again.costs end.answer again.answer end.staging
+    let staging : IsStaging q capacity end.stages again.costs again.answer =
+    subst (λ some. IsStaging q capacity some again.costs again.answer) (sym same) again.staging in
+    let (costs, answer) = one q within capacity end.stages end.costs again.costs end.answer again.answer end.staging
     staging in
-    told_one_way q cap end.costs end.answer first second text other end.told
-    (subst (λ a. TellsAnswer q cap end.costs a second other) answer
-    (subst (λ c. TellsAnswer q cap c again.answer second other) costs again.told))
+    told_one_way q capacity end.costs end.answer first second text other end.told
+    (subst (λ a. TellsAnswer q capacity end.costs a second other) answer
+    (subst (λ c. TellsAnswer q capacity c again.answer second other) costs again.told))

@@ -161,7 +161,8 @@ pub record HasCauses (named : Option AnyCommand) (shelf : Reads) (sink : Puts) (
       → HoldsPlan named_files command.choices.options shelf.held query text → IsGoodText query text cost
       → HasNoFault command.task shelf sink → IsOneOf served status
   -- a text with a fault is refused
-  pub refuses_plan : (command : AnyCommand) (named_files : PlanNames) (query : Query) (text : List ℕ) (fault : TextFault)
+  pub refuses_plan : (command : AnyCommand) (named_files : PlanNames) (query : Query) (text : List ℕ)
+      (fault : TextFault)
       → named ≡ Some command → command.task ≡ check named_files
       → HoldsPlan named_files command.choices.options shelf.held query text → fault ≢ faults.Memory
       → HasFault query text fault → HasNoFault command.task shelf sink → IsOneOf plan_turned_down status

@@ -18,7 +18,8 @@ use Rattle.orca_cli.specs.Lists.{IsListRefused}
 use Rattle.orca_cli.specs.Replays.{IsDumpRefused}
 use Rattle.orca_cli.specs.Texts as texts
 use Rattle.orca_cli.specs.declared.status.Status.{Status}
-use Rattle.orca_cli.specs.declared.status.Status.TheVariants.{Usage, QueryRefused, CatalogRefused, ReadFault, PlanRefused}
+use Rattle.orca_cli.specs.declared.status.Status.TheVariants.{Usage, QueryRefused}
+use Rattle.orca_cli.specs.declared.status.Status.TheVariants.{CatalogRefused, ReadFault, PlanRefused}
 
 -- what a call finds on its shelf: what is held under each name, where it is told, and each name's count of faults
 -- before the call and after it

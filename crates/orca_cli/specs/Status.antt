@@ -2,7 +2,8 @@
 use Rattle.std.specs.Prelude.{ℕ, List, [], ◌∷◌, ◌≡◌, ◌⊎◌}
 use Rattle.orca_cli.specs.declared.status.Status.{Status}
 use Rattle.orca_cli.specs.declared.status.Status.TheVariants.{Planned, NoPlan, Usage, QueryRefused, CatalogRefused}
-use Rattle.orca_cli.specs.declared.status.Status.TheVariants.{TooManyEntries, ReadFault, WriteFault, Memory, PlanRefused}
+use Rattle.orca_cli.specs.declared.status.Status.TheVariants.{TooManyEntries, ReadFault}
+use Rattle.orca_cli.specs.declared.status.Status.TheVariants.{WriteFault, Memory, PlanRefused}
 use Rattle.orca_cli.specs.declared.status.Status.TheVariants.{DumpRefused, BatchRefused}
 
 -- the number with which the program ends

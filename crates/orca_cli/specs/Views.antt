@@ -94,10 +94,11 @@ pub record IsDumpedOf (catalog : Catalog) (options : Options) (text : List ℕ) 
   pub asks : Asks catalog options text query
 
 -- so is the text under a name
-pub record IsDumpedOver (catalog : Catalog) (options : Options) (held : Option (List ℕ)) (dumped : Dumped) : Type 0 where
-  pub text : List ℕ
-  pub told : AreTold held text
-  pub is_dumped : IsDumpedOf catalog options text dumped
+pub record IsDumpedOver (catalog : Catalog) (options : Options) (held : Option (List ℕ)) (dumped : Dumped) : Type 0
+  where
+    pub text : List ℕ
+    pub told : AreTold held text
+    pub is_dumped : IsDumpedOf catalog options text dumped
 
 -- so are two files
 pub record AreDumped (files : FileNames) (options : Options) (held : List ℕ → Option (List ℕ)) (dumped : Dumped) :

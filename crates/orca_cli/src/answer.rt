@@ -60,7 +60,7 @@ pub fn ending_of(
             };
             done(alloc, choices, generated, search, answers)
         }
-        Outcome::Full { cap } => too_many_entries(alloc, *cap),
+        Outcome::Full { capacity } => too_many_entries(alloc, *capacity),
         Outcome::Unfinished { ready: _ } => unreachable!(),
     }
 }

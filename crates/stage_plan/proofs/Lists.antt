@@ -85,7 +85,12 @@ pub record HasLast {X : Type 0} (xs : List X) : Type 0 where
 pub last_of : {X : Type 0} (x : X) (xs : List X) → HasLast (x ∷ xs)
 last_of x [] = record { front = []; last = x; all = refl }
 last_of x (y ∷ xs) =
-    let others = last_of y xs in record { front = x ∷ others.front; last = others.last; all = ap (λ l. x ∷ l) others.all }
+    let others = last_of y xs in record {
+      front = x ∷ others.front;
+      last = others.last;
+      all = ap (λ l. x ∷ l)
+          others.all;
+    }
 
 -- where a list is split at the first element that stops, or at its last one, it is split in one way
 module _ {X : Type 0} (Stops : X → Type 0) where

@@ -15,7 +15,7 @@ use Rattle.query_stage.specs.declared.stage.Stage.{Stage}
 use Rattle.stage_plan.proofs.Lists.{AllZip-one, one_split, get_left}
 use Rattle.stage_plan.proofs.PlansAt.{at_last, one_cost, one_plan, one_plan_at}
 
-module _ (one : (q : Query) → LeastIsOne q) (q : Query) (limits : IsWithinLimits q) (cap : ℕ) where
+module _ (one : (q : Query) → LeastIsOne q) (q : Query) (limits : IsWithinLimits q) (capacity : ℕ) where
   -- of stages one is the first with the least plan
   one_number : (stages : List Stage) (n m : ℕ) (plan other : Tree) → IsFirstLeast q stages n plan
       → IsFirstLeast q stages m other → m ≡ n
@@ -41,8 +41,9 @@ module _ (one : (q : Query) → LeastIsOne q) (q : Query) (limits : IsWithinLimi
         → AllZip (HasCost q) stages others → others ≡ costs
     one_costs stages costs others h k = AllZip-one (HasCost q) (one_cost one q limits) stages costs others h k
 
-    one_answer : (costs others : List (Option ℕ)) (answer other : StagedAnswer) → Answers q cap before last costs answer
-        → Answers q cap before last others other → (others ≡ costs) × (other ≡ answer)
+    one_answer : (costs others : List (Option ℕ)) (answer other : StagedAnswer)
+        → Answers q capacity before last costs answer
+        → Answers q capacity before last others other → (others ≡ costs) × (other ≡ answer)
     one_answer costs others answer other (full more h is) (full also k too) =
         (one_costs before costs others h k, too ∙ sym is)
     one_answer costs others answer other (full more h is) (enough room plan its too) = absurd (room.some_room more)
@@ -75,18 +76,18 @@ module _ (one : (q : Query) → LeastIsOne q) (q : Query) (limits : IsWithinLimi
         (one_costs (before ++ last ∷ []) costs others room.have_costs also.have_costs, too ∙ sym is)
 
 pub one_staging : ((q : Query) → LeastIsOne q) → (q : Query) → HasOneStaging q
-one_staging one q limits cap stages costs others answer other first also =
-    let split = one_split (Stops q cap) first.before also.before first.last also.last first.run.rest also.run.rest
+one_staging one q limits capacity stages costs others answer other first also =
+    let split = one_split (Stops q capacity) first.before also.before first.last also.last first.run.rest also.run.rest
     (sym first.run.all ∙ also.run.all) first.run.go_on also.run.go_on first.run.ends also.run.ends in
     let before_same = split.0 in
     let last_same = split.1 in
-    one_answer one q limits cap first.before first.last costs others answer other first.answers
-    (subst (λ b. Answers q cap b first.last others other) before_same
-    (subst (λ l. Answers q cap also.before l others other) last_same also.answers))
+    one_answer one q limits capacity first.before first.last costs others answer other first.answers
+    (subst (λ b. Answers q capacity b first.last others other) before_same
+    (subst (λ l. Answers q capacity also.before l others other) last_same also.answers))
 
 -- a plan that is the answer is that of its stage
 pub plans_of_stages : (q : Query) → PlansAreOfStages q
-plans_of_stages q cap stages costs number plan staging =
+plans_of_stages q capacity stages costs number plan staging =
     subst (λ some. IsPlanAt q some number plan) (sym staging.run.all) (of_answers staging.answers)
   where
     before : List Stage
@@ -98,7 +99,8 @@ plans_of_stages q cap stages costs number plan staging =
     last : Stage
     last = staging.last
 
-    of_answers : Answers q cap before last costs (planned number plan) → IsPlanAt q (before ++ last ∷ rest) number plan
+    of_answers : Answers q capacity before last costs (planned number plan)
+        → IsPlanAt q (before ++ last ∷ rest) number plan
     of_answers (full more are is) = cc
     of_answers (enough room found its is) =
         let counted : length before ≡ number = cc in

@@ -2,7 +2,8 @@
 use Rattle.std.proofs.Common.{◌≡◌, ℕ, List, slice_index_or}
 use Rattle.query_core.specs.Results.{AreOptions}
 use Rattle.query_core.specs.Keys.{IsKey, Names}
-use Rattle.query_core.specs.Expressions.{FallsInto, HasLogical, HasPhysical, HasShape, IsCandidate, IsCandidateOf, IsJoin}
+use Rattle.query_core.specs.Expressions.{FallsInto, HasLogical, HasPhysical}
+use Rattle.query_core.specs.Expressions.{HasShape, IsCandidate, IsCandidateOf, IsJoin}
 use Rattle.query_core.specs.Expressions.{expr_of, implements, access, HasAccess}
 use Rattle.query_core.specs.declared.query.Query.{Query}
 use Rattle.query_core.specs.declared.options.Options.{Options}
@@ -215,7 +216,11 @@ placement_tables_with q o v tables h = record {
 
 root_with : (q : Query) (o : Options) (v : AreOptions o) (request : Request) → o.root ≡ q.options.root
     → IsRoot q request → IsRoot (with q o v) request
-root_with q o v request same h = record { dist = cc; order = record { numbered = h.order.numbered; is_order = h.order.is_order } }
+root_with q o v request same h = record {
+  dist = cc;
+  order = record
+      { numbered = h.order.numbered; is_order = h.order.is_order };
+}
 
 -- where the root of the plan is to be on as many segments
 pub props_with : (q : Query) (o : Options) (v : AreOptions o) (props : Props) → o.root ≡ q.options.root

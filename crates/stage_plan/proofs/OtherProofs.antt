@@ -62,11 +62,14 @@ module _ (q : Query) (has_segments : 1 ≤ q.segments) (segments_fit : q.segment
     links_valid =
         is_prop→PathP (λ j. AreLinks q.tables q.items q.preds q.links) (λ j. hlevel props) q.links_valid links i;
     grouping_valid =
-        is_prop→PathP (λ j. IsGrouping q.items q.grouped q.group_by q.aggs) (λ j. hlevel props) q.grouping_valid grouping i;
+        is_prop→PathP (λ j. IsGrouping q.items q.grouped q.group_by q.aggs) (λ j. hlevel props) q.grouping_valid
+        grouping i;
     output_valid =
-        is_prop→PathP (λ j. IsOutput q.items q.grouped q.group_by q.aggs q.output) (λ j. hlevel props) q.output_valid output
+        is_prop→PathP (λ j. IsOutput q.items q.grouped q.group_by q.aggs q.output) (λ j. hlevel props) q.output_valid
+        output
         i;
     order_valid =
-        is_prop→PathP (λ j. IsOrder q.items q.grouped q.group_by q.aggs q.order) (λ j. hlevel props) q.order_valid order i;
+        is_prop→PathP (λ j. IsOrder q.items q.grouped q.group_by q.aggs q.order) (λ j. hlevel props) q.order_valid
+        order i;
     options_valid = is_prop→PathP (λ j. AreOptions q.options) (λ j. hlevel props) q.options_valid options i;
   }

@@ -27,15 +27,15 @@ use Rattle.stage_plan.proofs.Lists.{All-front, All-last, AllZip-push, last_of}
 use Rattle.stage_plan.proofs.PlansAt.{none_more, one_plan, first_stays, first_changes, first_begins}
 
 -- the stage at this place comes next
-pub next_at : (q query : Query) (cap : ℕ) (stages : List Stage) (old : SoFar) (next : Stage) (n : ℕ)
+pub next_at : (q query : Query) (capacity : ℕ) (stages : List Stage) (old : SoFar) (next : Stage) (n : ℕ)
     (found : Option Found) (props : Props)
-    → IsProps q props → query ≡ q → HaveRun q cap (take n stages) old.ran old.least → n < length stages
-    → IsFoundIn query cap next found → IsNext q cap (take n stages) old next n found
-next_at q query cap stages old next n found props collected same have near is = record {
+    → IsProps q props → query ≡ q → HaveRun q capacity (take n stages) old.ran old.least → n < length stages
+    → IsFoundIn query capacity next found → IsNext q capacity (take n stages) old next n found
+next_at q query capacity stages old next n found props collected same have near is = record {
   limits = record { few_lists = collected.few_lists; few_orders = collected.few_orders };
   have_run = have;
   its_number = sym (length-take-le n stages (le_of_lt near));
-  is_found = subst (λ q. IsFoundIn q cap next found) same is;
+  is_found = subst (λ q. IsFoundIn q capacity next found) same is;
 }
 
 -- the least plan of the stage, with its cost
@@ -50,12 +50,12 @@ pub plan_found : (q : Query) (stage : Stage) (plan : Plan) (cost : ℕ)
 plan_found q stage plan cost (tree, spells, least, costs) =
     record { tree = tree; spells = spells; least = least; costs = costs }
 
-module _ (one : (q : Query) → LeastIsOne q) (q : Query) (limits : IsWithinLimits q) (cap : ℕ) (stages : List Stage)
-    (ran : List (Option ℕ)) (least : Option Chosen) (have : HaveRun q cap stages ran least) (next : Stage) where
+module _ (one : (q : Query) → LeastIsOne q) (q : Query) (limits : IsWithinLimits q) (capacity : ℕ) (stages : List Stage)
+    (ran : List (Option ℕ)) (least : Option Chosen) (have : HaveRun q capacity stages ran least) (next : Stage) where
   -- ---- the next stage stops
 
-  pub ends_full : (rest : List Stage) (number : ℕ) → number ≡ length stages → IsFullIn q cap next
-      → IsStagedRun q cap (stages ++ next ∷ rest) (record { found = Full number; ran = ran })
+  pub ends_full : (rest : List Stage) (number : ℕ) → number ≡ length stages → IsFullIn q capacity next
+      → IsStagedRun q capacity (stages ++ next ∷ rest) (record { found = Full number; ran = ran })
   ends_full rest number its_number more = record {
     answer = too_many (length stages);
     tells = its_number;
@@ -67,14 +67,19 @@ module _ (one : (q : Query) → LeastIsOne q) (q : Query) (limits : IsWithinLimi
     };
   }
 
-  pub ends_enough : (rest : List Stage) (number : ℕ) → number ≡ length stages → (IsFullIn q cap next → ⊥)
+  pub ends_enough : (rest : List Stage) (number : ℕ) → number ≡ length stages → (IsFullIn q capacity next → ⊥)
       → (plan : Plan) (cost : ℕ) → IsPlanFor q next plan cost → (threshold : ℕ) → next.threshold ≡ Some threshold
       → cost < threshold
-      → IsStagedRun q cap (stages ++ next ∷ rest)
+      → IsStagedRun q capacity (stages ++ next ∷ rest)
       (record { found = Least number plan cost; ran = ran ++ Some cost ∷ [] })
   ends_enough rest number its_number not_full plan cost its threshold is_threshold less =
       let enough : IsEnough q next its.tree =
-      record { threshold = threshold; is_threshold = is_threshold; least = its.least; less = omega (arith, its.costs) } in
+      record {
+        threshold = threshold;
+        is_threshold = is_threshold;
+        least = its.least;
+        less = omega (arith, its.costs);
+      } in
       record {
         answer = planned (length stages) its.tree;
         tells = (its_number, its.spells, its.costs);
@@ -104,11 +109,11 @@ module _ (one : (q : Query) → LeastIsOne q) (q : Query) (limits : IsWithinLimi
         (λ other its _. no_plan other its.serves),
   )
 
-  pub takes_none : (IsFullIn q cap next → ⊥) → QueryHasNoPlan (query_in q next)
-      → HaveRun q cap (stages ++ next ∷ []) (ran ++ None ∷ []) least
+  pub takes_none : (IsFullIn q capacity next → ⊥) → QueryHasNoPlan (query_in q next)
+      → HaveRun q capacity (stages ++ next ∷ []) (ran ++ None ∷ []) least
   takes_none not_full no_plan = record {
     go_on =
-        All-push (λ stage. Stops q cap stage → ⊥) stages next have.go_on
+        All-push (λ stage. Stops q capacity stage → ⊥) stages next have.go_on
         (λ stops. elim stops as (λ _. ⊥) [
           | inl more ↦ not_full more
           | inr enough ↦ no_plan enough.0 enough.1.least.serves
@@ -117,7 +122,8 @@ module _ (one : (q : Query) → LeastIsOne q) (q : Query) (limits : IsWithinLimi
     is_least = least_stays least have.is_least no_plan;
   }
 
-  module _ (number : ℕ) (its_number : number ≡ length stages) (plan : Plan) (cost : ℕ) (its : IsPlanFor q next plan cost)
+  module _ (number : ℕ) (its_number : number ≡ length stages) (plan : Plan) (cost : ℕ)
+      (its : IsPlanFor q next plan cost)
     where
       offered_is : IsPlanOf q (record { stage = number; plan = plan; cost = cost }) its.tree
       offered_is = record { spells = its.spells; costs = its.costs }
@@ -145,13 +151,13 @@ module _ (one : (q : Query) → LeastIsOne q) (q : Query) (limits : IsWithinLimi
                 subst (λ f. IsLeastOf q (stages ++ next ∷ []) f) (sym stays.0) (before, of, stayed)
           ]
 
-      pub takes_plan : (IsFullIn q cap next → ⊥)
+      pub takes_plan : (IsFullIn q capacity next → ⊥)
           → ((threshold : ℕ) → next.threshold ≡ Some threshold → cost < threshold → ⊥) → (new : Option Chosen)
           → Keeps least (record { stage = number; plan = plan; cost = cost }) new
-          → HaveRun q cap (stages ++ next ∷ []) (ran ++ Some cost ∷ []) new
+          → HaveRun q capacity (stages ++ next ∷ []) (ran ++ Some cost ∷ []) new
       takes_plan not_full not_enough new keeps = record {
         go_on =
-            All-push (λ stage. Stops q cap stage → ⊥) stages next have.go_on
+            All-push (λ stage. Stops q capacity stage → ⊥) stages next have.go_on
             (λ stops. elim stops as (λ _. ⊥) [
               | inl more ↦ not_full more
               | inr enough ↦
@@ -165,16 +171,17 @@ module _ (one : (q : Query) → LeastIsOne q) (q : Query) (limits : IsWithinLimi
 
 -- ---- all stages have run
 
-module _ (q : Query) (cap : ℕ) (before : List Stage) (last : Stage) (ran : List (Option ℕ)) where
-  room : (least : Option Chosen) → HaveRun q cap (before ++ last ∷ []) ran least → HasRoom q cap before last ran
+module _ (q : Query) (capacity : ℕ) (before : List Stage) (last : Stage) (ran : List (Option ℕ)) where
+  room : (least : Option Chosen) → HaveRun q capacity (before ++ last ∷ []) ran least
+      → HasRoom q capacity before last ran
   room least have = record {
-    some_room = λ more. All-last (λ stage. Stops q cap stage → ⊥) before last [] have.go_on (inl more);
+    some_room = λ more. All-last (λ stage. Stops q capacity stage → ⊥) before last [] have.go_on (inl more);
     have_costs = have.costs;
   }
 
-  answered : (least : Option Chosen) → HaveRun q cap (before ++ last ∷ []) ran least → (answer : StagedAnswer)
-      → Tells q (staged_of least) answer → Answers q cap before last ran answer
-      → IsStagedRun q cap (before ++ last ∷ []) (record { found = staged_of least; ran = ran })
+  answered : (least : Option Chosen) → HaveRun q capacity (before ++ last ∷ []) ran least → (answer : StagedAnswer)
+      → Tells q (staged_of least) answer → Answers q capacity before last ran answer
+      → IsStagedRun q capacity (before ++ last ∷ []) (record { found = staged_of least; ran = ran })
   answered least have answer tells answers = record {
     answer = answer;
     tells = tells;
@@ -184,28 +191,28 @@ module _ (q : Query) (cap : ℕ) (before : List Stage) (last : Stage) (ran : Lis
       run = record {
         rest = [];
         all = refl;
-        go_on = All-front (λ stage. Stops q cap stage → ⊥) before (last ∷ []) have.go_on;
+        go_on = All-front (λ stage. Stops q capacity stage → ⊥) before (last ∷ []) have.go_on;
         ends = inr refl;
       };
       answers = answers;
     };
   }
 
-  ended_at : (least : Option Chosen) → HaveRun q cap (before ++ last ∷ []) ran least
-      → IsStagedRun q cap (before ++ last ∷ []) (record { found = staged_of least; ran = ran })
+  ended_at : (least : Option Chosen) → HaveRun q capacity (before ++ last ∷ []) ran least
+      → IsStagedRun q capacity (before ++ last ∷ []) (record { found = staged_of least; ran = ran })
   ended_at None have = answered None have unplanned tt (told.none (room None have) have.is_least refl)
   ended_at (Some chosen) have =
       let is = have.is_least in
       answered (Some chosen) have (planned chosen.stage is.0) (refl, is.1.spells, is.1.costs)
       (told.least (room (Some chosen) have)
-      (λ plan enough. All-last (λ stage. Stops q cap stage → ⊥) before last [] have.go_on (inr (plan, enough)))
+      (λ plan enough. All-last (λ stage. Stops q capacity stage → ⊥) before last [] have.go_on (inr (plan, enough)))
       chosen.stage is.0 is.2 refl)
 
-pub ended : (q : Query) (cap : ℕ) (stages : List Stage) (ran : List (Option ℕ)) (least : Option Chosen)
-    → 1 ≤ length stages → HaveRun q cap stages ran least
-    → IsStagedRun q cap stages (record { found = staged_of least; ran = ran })
-ended q cap [] ran least some have = absurd (omega arith)
-ended q cap (stage ∷ stages) ran least some have =
+pub ended : (q : Query) (capacity : ℕ) (stages : List Stage) (ran : List (Option ℕ)) (least : Option Chosen)
+    → 1 ≤ length stages → HaveRun q capacity stages ran least
+    → IsStagedRun q capacity stages (record { found = staged_of least; ran = ran })
+ended q capacity [] ran least some have = absurd (omega arith)
+ended q capacity (stage ∷ stages) ran least some have =
     let split = last_of stage stages in
-    subst (λ l. IsStagedRun q cap l (record { found = staged_of least; ran = ran })) (sym split.all)
-    (ended_at q cap split.front split.last ran least (subst (λ l. HaveRun q cap l ran least) split.all have))
+    subst (λ l. IsStagedRun q capacity l (record { found = staged_of least; ran = ran })) (sym split.all)
+    (ended_at q capacity split.front split.last ran least (subst (λ l. HaveRun q capacity l ran least) split.all have))

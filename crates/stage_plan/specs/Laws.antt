@@ -20,13 +20,13 @@ SharesCosts q = (stage : Stage) (plan : Tree) → cost_of (query_in q stage) pla
 -- a plan that is the answer is the least one of the stage that is told with it
 abbrev pub PlansAreOfStages : Query → Type 0
 PlansAreOfStages q =
-    (cap : ℕ) (stages : List Stage) (costs : List (Option ℕ)) (number : ℕ) (plan : Tree)
-    → IsStaging q cap stages costs (planned number plan) → IsPlanAt q stages number plan
+    (capacity : ℕ) (stages : List Stage) (costs : List (Option ℕ)) (number : ℕ) (plan : Tree)
+    → IsStaging q capacity stages costs (planned number plan) → IsPlanAt q stages number plan
 
 -- the same stages have one answer, with the same costs
 abbrev pub HasOneStaging : Query → Type 0
 HasOneStaging q =
-    IsWithinLimits q → (cap : ℕ) (stages : List Stage) (costs other_costs : List (Option ℕ))
+    IsWithinLimits q → (capacity : ℕ) (stages : List Stage) (costs other_costs : List (Option ℕ))
     (answer other : StagedAnswer)
-    → IsStaging q cap stages costs answer → IsStaging q cap stages other_costs other
+    → IsStaging q capacity stages costs answer → IsStaging q capacity stages other_costs other
     → (other_costs ≡ costs) × (other ≡ answer)

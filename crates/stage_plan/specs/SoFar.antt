@@ -19,13 +19,13 @@ use Rattle.stage_plan.specs.declared.staged.Staged.{Staged}
 use Rattle.stage_plan.specs.declared.staged.Staged.TheVariants.{Least, NoPlan}
 
 -- the least plan of the query, or that there is none; nothing where the query has more entries than the capacity
-abbrev pub IsFoundWithin : Query → (cap : ℕ) → Option Found → Type 0
-IsFoundWithin q cap None = HasMoreEntries q cap
-IsFoundWithin q cap (Some found) = (HasMoreEntries q cap → ⊥) × IsFound q found
+abbrev pub IsFoundWithin : Query → (capacity : ℕ) → Option Found → Type 0
+IsFoundWithin q capacity None = HasMoreEntries q capacity
+IsFoundWithin q capacity (Some found) = (HasMoreEntries q capacity → ⊥) × IsFound q found
 
 -- the same of the query in a stage
-abbrev pub IsFoundIn : Query → (cap : ℕ) → Stage → Option Found → Type 0
-IsFoundIn q cap stage found = IsFoundWithin (query_in q stage) cap found
+abbrev pub IsFoundIn : Query → (capacity : ℕ) → Stage → Option Found → Type 0
+IsFoundIn q capacity stage found = IsFoundWithin (query_in q stage) capacity found
 
 -- the plan that was chosen, with its cost
 pub record IsPlanOf (q : Query) (chosen : Chosen) (plan : Tree) : Type 0 where
@@ -45,28 +45,29 @@ Keeps (Some kept) offered new =
     → ((new ≡ Some offered) × IsLess q other plan) ⊎ ((new ≡ Some kept) × (IsLess q other plan → ⊥))
 
 -- none of these stages stops; what their least plans cost; and the least of these plans
-pub record HaveRun (q : Query) (cap : ℕ) (stages : List Stage) (ran : List (Option ℕ)) (least : Option Chosen) : Type 0
+pub record HaveRun (q : Query) (capacity : ℕ) (stages : List Stage) (ran : List (Option ℕ)) (least : Option Chosen) :
+    Type 0
   where
-    pub go_on : All (λ stage. Stops q cap stage → ⊥) stages
+    pub go_on : All (λ stage. Stops q capacity stage → ⊥) stages
     pub costs : AllZip (HasCost q) stages ran
     pub is_least : IsLeastOf q stages least
 
 -- these stages have run, and the next one has this number and gives this
-pub record IsNext (q : Query) (cap : ℕ) (stages : List Stage) (old : SoFar) (next : Stage) (number : ℕ)
+pub record IsNext (q : Query) (capacity : ℕ) (stages : List Stage) (old : SoFar) (next : Stage) (number : ℕ)
     (found : Option Found) : Type 0 where
   pub limits : IsWithinLimits q
-  pub have_run : HaveRun q cap stages old.ran old.least
+  pub have_run : HaveRun q capacity stages old.ran old.least
   pub its_number : number ≡ length stages
-  pub is_found : IsFoundIn q cap next found
+  pub is_found : IsFoundIn q capacity next found
 
 -- the next stage is taken in; there is an answer where it stops, whatever stages come after it
 abbrev pub TakesIn : SoFar → Stage → ℕ → Option Found → SoFar → Option Staged → Type 0
 TakesIn old next number found new None =
-    (q : Query) (cap : ℕ) (stages : List Stage) → IsNext q cap stages old next number found
-    → HaveRun q cap (stages ++ next ∷ []) new.ran new.least
+    (q : Query) (capacity : ℕ) (stages : List Stage) → IsNext q capacity stages old next number found
+    → HaveRun q capacity (stages ++ next ∷ []) new.ran new.least
 TakesIn old next number found new (Some answer) =
-    (q : Query) (cap : ℕ) (stages rest : List Stage) → IsNext q cap stages old next number found
-    → IsStagedRun q cap (stages ++ next ∷ rest) (record { found = answer; ran = new.ran })
+    (q : Query) (capacity : ℕ) (stages rest : List Stage) → IsNext q capacity stages old next number found
+    → IsStagedRun q capacity (stages ++ next ∷ rest) (record { found = answer; ran = new.ran })
 
 -- the plan is the answer, if there is one
 abbrev pub staged_of : Option Chosen → Staged

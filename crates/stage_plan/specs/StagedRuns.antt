@@ -20,9 +20,10 @@ HasCost q stage None = QueryHasNoPlan (query_in q stage)
 HasCost q stage (Some cost) = (plan : Tree) × IsPlanIn q stage plan × (cost ≡ cost_of q plan)
 
 -- the last stage has room for its entries, and these are the costs of all that run
-pub record HasRoom (q : Query) (cap : ℕ) (before : List Stage) (last : Stage) (costs : List (Option ℕ)) : Type 0 where
-  pub some_room : IsFullIn q cap last → ⊥
-  pub have_costs : AllZip (HasCost q) (before ++ last ∷ []) costs
+pub record HasRoom (q : Query) (capacity : ℕ) (before : List Stage) (last : Stage) (costs : List (Option ℕ)) : Type 0
+  where
+    pub some_room : IsFullIn q capacity last → ⊥
+    pub have_costs : AllZip (HasCost q) (before ++ last ∷ []) costs
 
 -- ---- plans
 
@@ -52,25 +53,27 @@ pub data StagedAnswer : Type 0 where
 
 -- the answer of the stages that run: the last one has too many entries, and the costs are those of the others; or its
 -- plan is enough; or it isn't, and the plan is the least of all; or none has a plan
-pub data Answers (q : Query) (cap : ℕ) (before : List Stage) (last : Stage) (costs : List (Option ℕ))
+pub data Answers (q : Query) (capacity : ℕ) (before : List Stage) (last : Stage) (costs : List (Option ℕ))
     (answer : StagedAnswer) : Type 0 where
-  full : IsFullIn q cap last → AllZip (HasCost q) before costs → answer ≡ too_many (length before)
-      → Answers q cap before last costs answer
-  enough : HasRoom q cap before last costs → (plan : Tree) → IsEnough q last plan
-      → answer ≡ planned (length before) plan → Answers q cap before last costs answer
-  least : HasRoom q cap before last costs → ((plan : Tree) → IsEnough q last plan → ⊥) → (stage : ℕ) → (plan : Tree)
+  full : IsFullIn q capacity last → AllZip (HasCost q) before costs → answer ≡ too_many (length before)
+      → Answers q capacity before last costs answer
+  enough : HasRoom q capacity before last costs → (plan : Tree) → IsEnough q last plan
+      → answer ≡ planned (length before) plan → Answers q capacity before last costs answer
+  least : HasRoom q capacity before last costs → ((plan : Tree) → IsEnough q last plan → ⊥) → (stage : ℕ)
+      → (plan : Tree)
       → IsFirstLeast q (before ++ last ∷ []) stage plan → answer ≡ planned stage plan
-      → Answers q cap before last costs answer
-  none : HasRoom q cap before last costs → HaveNoPlan q (before ++ last ∷ []) → answer ≡ unplanned
-      → Answers q cap before last costs answer
+      → Answers q capacity before last costs answer
+  none : HasRoom q capacity before last costs → HaveNoPlan q (before ++ last ∷ []) → answer ≡ unplanned
+      → Answers q capacity before last costs answer
 
 -- which stages run, what their least plans cost, and their answer
-pub record IsStaging (q : Query) (cap : ℕ) (stages : List Stage) (costs : List (Option ℕ)) (answer : StagedAnswer) :
+pub record IsStaging (q : Query) (capacity : ℕ) (stages : List Stage) (costs : List (Option ℕ))
+    (answer : StagedAnswer) :
     Type 0 where
   pub before : List Stage
   pub last : Stage
-  pub run : Run q cap stages before last
-  pub answers : Answers q cap before last costs answer
+  pub run : Run q capacity stages before last
+  pub answers : Answers q capacity before last costs answer
 
 -- ---- what is told
 
@@ -87,7 +90,7 @@ Tells q (Full stage) unplanned = ⊥
 Tells q (Full stage) (too_many number) = stage ≡ number
 
 -- the run tells the answer of the stages, and their costs
-pub record IsStagedRun (q : Query) (cap : ℕ) (stages : List Stage) (run : StagedRun) : Type 0 where
+pub record IsStagedRun (q : Query) (capacity : ℕ) (stages : List Stage) (run : StagedRun) : Type 0 where
   pub answer : StagedAnswer
   pub tells : Tells q run.found answer
-  pub staging : IsStaging q cap stages run.ran answer
+  pub staging : IsStaging q capacity stages run.ran answer

@@ -22,8 +22,8 @@ abbrev pub IsPlanIn : Query → Stage → Tree → Type 0
 IsPlanIn q stage plan = IsLeastPlan (query_in q stage) plan
 
 -- the query has more entries in the stage than the capacity
-abbrev pub IsFullIn : Query → (cap : ℕ) → Stage → Type 0
-IsFullIn q cap stage = HasMoreEntries (query_in q stage) cap
+abbrev pub IsFullIn : Query → (capacity : ℕ) → Stage → Type 0
+IsFullIn q capacity stage = HasMoreEntries (query_in q stage) capacity
 
 -- the stage has a threshold, and its least plan costs less; costs are the same in each stage
 pub record IsEnough (q : Query) (stage : Stage) (plan : Tree) : Type 0 where
@@ -35,13 +35,13 @@ pub record IsEnough (q : Query) (stage : Stage) (plan : Tree) : Type 0 where
 -- ---- which stages run
 
 -- no stage runs after this one
-abbrev pub Stops : Query → (cap : ℕ) → Stage → Type 0
-Stops q cap stage = IsFullIn q cap stage ⊎ ((plan : Tree) × IsEnough q stage plan)
+abbrev pub Stops : Query → (capacity : ℕ) → Stage → Type 0
+Stops q capacity stage = IsFullIn q capacity stage ⊎ ((plan : Tree) × IsEnough q stage plan)
 
 -- of these stages those before the last one run, and the last one: none before it stops, and either it stops or no
 -- further one is there
-pub record Run (q : Query) (cap : ℕ) (stages before : List Stage) (last : Stage) : Type 0 where
+pub record Run (q : Query) (capacity : ℕ) (stages before : List Stage) (last : Stage) : Type 0 where
   pub rest : List Stage
   pub all : stages ≡ before ++ last ∷ rest
-  pub go_on : All (λ stage. Stops q cap stage → ⊥) before
-  pub ends : Stops q cap last ⊎ (rest ≡ [])
+  pub go_on : All (λ stage. Stops q capacity stage → ⊥) before
+  pub ends : Stops q capacity last ⊎ (rest ≡ [])

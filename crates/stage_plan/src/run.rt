@@ -14,7 +14,7 @@ use std::alloc::{AllocError, Global};
 use std::sync::Wait;
 use std::thread::Threads;
 
-/// Plans the query in stages, one after the other, until the plan of one is enough or the query has more than `cap`
+/// Plans the query in stages, one after the other, until the plan of one is enough or the query has more than `capacity`
 /// members and goals in one. The rules that are off in the query itself don't count, and are off again on every return.
 /// One worker searches alone; more are a crew, each in a thread of its own, which passes the gate before each of its
 /// steps. It may wait. Each search has a note of its own.
@@ -24,20 +24,20 @@ pub fn run_stages<R: Threads + Wait + Sync, G: Gate>(
     query: &mut Query,
     props: &Props,
     stages: &[Stage],
-    cap: u32,
+    capacity: u32,
     workers: u32,
     gate: &G,
 ) -> Result<StagedRun, AllocError>
     requires props { IsProps query.old props.now }
     requires stages { (1 ≤ length stages.now) × (length stages.now ≤ 8) }
-    requires capacity { (1 ≤ cap) × (cap ≤ 2 ^ 20) }
+    requires capacity { (1 ≤ capacity) × (capacity ≤ 2 ^ 20) }
     requires workers { (1 ≤ workers) × (workers ≤ 64) }
-    ensures run { IfOk result (IsStagedRun query.old cap stages.now) }
+    ensures run { IfOk result (IsStagedRun query.old capacity stages.now) }
     ensures same { query.new ≡ query.old }
 {
     let mut so_far = SoFar::new(alloc);
     for (number, stage) in stages.iter().enumerate() {
-        let found = search_stage(rt, alloc, query, props, *stage, cap, workers, gate)?;
+        let found = search_stage(rt, alloc, query, props, *stage, capacity, workers, gate)?;
         if let Some(found) = so_far.take_in(alloc, *stage, number as u32, found)? {
             return Ok(StagedRun {
                 found,

@@ -24,21 +24,21 @@ pub fn search_stage<R: Threads + Wait + Sync, G: Gate>(
     query: &mut Query,
     props: &Props,
     stage: Stage,
-    cap: u32,
+    capacity: u32,
     workers: u32,
     gate: &G,
 ) -> Result<Option<Found>, AllocError>
     requires props { IsProps query.old props.now }
-    requires capacity { (1 ≤ cap) × (cap ≤ 2 ^ 20) }
+    requires capacity { (1 ≤ capacity) × (capacity ≤ 2 ^ 20) }
     requires workers { (1 ≤ workers) × (workers ≤ 64) }
-    ensures found { IfOk result (IsFoundIn query.old cap stage) }
+    ensures found { IfOk result (IsFoundIn query.old capacity stage) }
     ensures same { query.new ≡ query.old }
 {
     // For the proof: what was collected of the query holds of it in the stage.
     stages_share_props();
     let off = query.options.off;
     query.options.off = stage.off;
-    let found = find(rt, alloc, query, props, cap, workers, gate);
+    let found = find(rt, alloc, query, props, capacity, workers, gate);
     query.options.off = off;
     found
 }
@@ -49,18 +49,18 @@ fn find<R: Threads + Wait + Sync, G: Gate>(
     alloc: Global,
     query: &Query,
     props: &Props,
-    cap: u32,
+    capacity: u32,
     workers: u32,
     gate: &G,
 ) -> Result<Option<Found>, AllocError>
     requires props { IsProps query.now props.now }
-    requires capacity { (1 ≤ cap) × (cap ≤ 2 ^ 20) }
+    requires capacity { (1 ≤ capacity) × (capacity ≤ 2 ^ 20) }
     requires workers { (1 ≤ workers) × (workers ≤ 64) }
-    ensures { IfOk result (IsFoundWithin query.now cap) }
+    ensures { IfOk result (IsFoundWithin query.now capacity) }
 {
     // For the proof: where all entries fit there aren't more.
     entries_fit_or_not();
-    match search(rt, alloc, query, props, cap, workers, gate)? {
+    match search(rt, alloc, query, props, capacity, workers, gate)? {
         Outcome::Done { answers, .. } => Ok(Some(extract(alloc, query, props, &answers)?)),
         Outcome::Full { .. } => Ok(None),
         Outcome::Unfinished { .. } => unreachable!(),
@@ -73,19 +73,19 @@ fn search<R: Threads + Wait + Sync, G: Gate>(
     alloc: Global,
     query: &Query,
     props: &Props,
-    cap: u32,
+    capacity: u32,
     workers: u32,
     gate: &G,
 ) -> Result<Outcome, AllocError>
     requires props { IsProps query.now props.now }
-    requires capacity { (1 ≤ cap) × (cap ≤ 2 ^ 20) }
+    requires capacity { (1 ≤ capacity) × (capacity ≤ 2 ^ 20) }
     requires workers { (1 ≤ workers) × (workers ≤ 64) }
-    ensures { IfOk result (RunEnds query.now cap workers) }
+    ensures { IfOk result (RunEnds query.now capacity workers) }
 {
     let mut note = RunNote::new();
     if workers == 1 {
-        search_alone(alloc, query, props, cap, &mut note)
+        search_alone(alloc, query, props, capacity, &mut note)
     } else {
-        search_by_crew(rt, alloc, query, props, cap, workers, gate, &mut note)
+        search_by_crew(rt, alloc, query, props, capacity, workers, gate, &mut note)
     }
 }

@@ -33,7 +33,7 @@ pub struct SoFar {
 impl SoFar {
     /// Before the first stage.
     pub fn new(alloc: Global) -> SoFar
-        ensures { (q : Query) (cap : ℕ) → HaveRun q cap [] result.ran result.least }
+        ensures { (q : Query) (capacity : ℕ) → HaveRun q capacity [] result.ran result.least }
     {
         SoFar {
             ran: List::new(alloc),
@@ -77,8 +77,8 @@ impl SoFar {
 
     /// The answer where none of the stages was the last but for being the last one there is.
     pub fn end(self) -> StagedRun
-        ensures { (q : Query) (cap : ℕ) (stages : Listed AnyStage) → 1 ≤ length stages →
-            HaveRun q cap stages self.ran self.least → IsStagedRun q cap stages result }
+        ensures { (q : Query) (capacity : ℕ) (stages : Listed AnyStage) → 1 ≤ length stages →
+            HaveRun q capacity stages self.ran self.least → IsStagedRun q capacity stages result }
     {
         let SoFar { ran, least } = self;
         StagedRun {

@@ -102,17 +102,19 @@ fn planned<R: Threads + Wait + Sync, G: Gate>(
     rt: &R,
     alloc: Global,
     stages: &[Stage],
-    cap: u32,
+    capacity: u32,
     workers: u32,
     gate: &G,
 ) -> Result<Vec<u8>, Fail>
     requires stages { (1 ≤ length stages.now) × (length stages.now ≤ 8) }
-    requires capacity { (1 ≤ cap) × (cap ≤ 2 ^ 20) }
+    requires capacity { (1 ≤ capacity) × (capacity ≤ 2 ^ 20) }
     requires workers { (1 ≤ workers) × (workers ≤ 64) }
 {
     let (query, props) = implied(alloc, two_tables(alloc)?)?;
     let mut query = query;
-    let run = run_stages(rt, alloc, &mut query, &props, stages, cap, workers, gate)?;
+    let run = run_stages(
+        rt, alloc, &mut query, &props, stages, capacity, workers, gate,
+    )?;
     Ok(told(alloc, &query, &props, run)?)
 }
 
@@ -121,16 +123,16 @@ fn tell<R: Threads + Wait + Sync>(
     rt: &R,
     alloc: Global,
     stages: &[Stage],
-    cap: u32,
+    capacity: u32,
     lines: &str,
     plan: &str,
 ) -> Result<bool, Fail>
     requires stages { (1 ≤ length stages.now) × (length stages.now ≤ 8) }
-    requires capacity { (1 ≤ cap) × (cap ≤ 2 ^ 20) }
+    requires capacity { (1 ≤ capacity) × (capacity ≤ 2 ^ 20) }
 {
     let wanted = format!(in alloc; "{lines}{plan}")?;
-    let alone = planned(rt, alloc, stages, cap, 1, &NoGate)?;
-    let by_eight = planned(rt, alloc, stages, cap, 8, &NoGate)?;
+    let alone = planned(rt, alloc, stages, capacity, 1, &NoGate)?;
+    let by_eight = planned(rt, alloc, stages, capacity, 8, &NoGate)?;
     Ok(alone.as_slice() == wanted.as_bytes() && by_eight.as_slice() == wanted.as_bytes())
 }
 

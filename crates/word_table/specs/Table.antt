@@ -44,8 +44,8 @@ Inserts old word Full new = IsFullWithout old word × (new ≡ old)
 pub record IsGapFor (cells : List ℕ) (word at : ℕ) : Type 0 where
   pub in_range : at < length cells
   pub empty : slice_index cells at ≡ 0
-  pub passed : let room = length cells in
-      PassesOthers room (λ place. slice_index cells place) word (steps_to room (home_of word room) at)
+  pub passed : let capacity = length cells in
+      PassesOthers capacity (λ place. slice_index cells place) word (steps_to capacity (home_of word capacity) at)
 
 -- where a probe for the word ended
 abbrev pub EndsProbe : List ℕ → ℕ → Probe → Type 0

@@ -17,9 +17,9 @@ pub fn look_up(cells: &[u64], word: u64) -> Probe
     requires few { length cells.now ≤ 2 ^ 20 }
     ensures { EndsProbe cells.now word result }
 {
-    let cap = cells.len() as u32;
-    let mut at = home(word, cap);
-    for _step in 0..cap {
+    let capacity = cells.len() as u32;
+    let mut at = home(word, capacity);
+    for _step in 0..capacity {
         let found = cells[at as usize];
         // An empty cell comes first, so that 0 is no word.
         if found == 0 {
@@ -28,7 +28,7 @@ pub fn look_up(cells: &[u64], word: u64) -> Probe
         if found == word {
             return Probe::At { at };
         }
-        at = next_place(at, cap);
+        at = next_place(at, capacity);
     }
     Probe::Round
 }

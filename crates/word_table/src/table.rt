@@ -24,14 +24,14 @@ impl Model for WordTable {
 }
 
 impl WordTable {
-    /// A table of `cap` empty cells. It is the only call that takes memory.
-    pub fn new(alloc: Global, cap: u32) -> Result<WordTable, AllocError>
-        requires some { 1 ≤ cap }
-        requires few { cap ≤ 2 ^ 20 }
-        ensures { IfOk result (λ table. table ≡ replicate cap 0) }
+    /// A table of `capacity` empty cells. It is the only call that takes memory.
+    pub fn new(alloc: Global, capacity: u32) -> Result<WordTable, AllocError>
+        requires some { 1 ≤ capacity }
+        requires few { capacity ≤ 2 ^ 20 }
+        ensures { IfOk result (λ table. table ≡ replicate capacity 0) }
     {
         Ok(WordTable {
-            cells: vec![in alloc; 0; cap as usize]?,
+            cells: vec![in alloc; 0; capacity as usize]?,
         })
     }
 

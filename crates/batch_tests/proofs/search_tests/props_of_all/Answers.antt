@@ -1,4 +1,5 @@
-use Rattle.std.proofs.Common.{◌≡◌, ℕ, zero, suc, ◌<◌, List, [], ◌∷◌, ◌++◌, length, get_or, Some, refl, sym, ap, ◌∙◌, subst, arith, ⊎_elim, ◌⊎◌, inl, inr, rules}
+use Rattle.std.proofs.Common.{◌≡◌, ℕ, zero, suc, ◌<◌, List, [], ◌∷◌, ◌++◌, length, get_or}
+use Rattle.std.proofs.Common.{Some, refl, sym, ap, ◌∙◌, subst, arith, ⊎_elim, ◌⊎◌, inl, inr, rules}
 use Rattle.std.specs.Prelude.{slice_get}
 use Rattle.std.proofs.lemmas.Option.{get_or_from_slice_get}
 use Rattle.query_core.specs.declared.query.Query.{Query}
@@ -18,8 +19,10 @@ get_push (z ∷ zs) x y (suc k) e =
 -- one query more has its props
 more_props : (queries : List Query) (old new : List Props) (own : Props) (here : Query) (at : ℕ)
     → new ≡ old ++ own ∷ [] → at ≡ length old → here ≡ get_or queries at here → IsProps here own
-    → ((i : ℕ) (query : Query) (p : Props) → slice_get queries i ≡ Some query → slice_get old i ≡ Some p → IsProps query p)
-    → (i : ℕ) (query : Query) (p : Props) → slice_get queries i ≡ Some query → slice_get new i ≡ Some p → IsProps query p
+    → ((i : ℕ) (query : Query) (p : Props) → slice_get queries i ≡ Some query → slice_get old i ≡ Some p
+    → IsProps query p)
+    → (i : ℕ) (query : Query) (p : Props) → slice_get queries i ≡ Some query → slice_get new i ≡ Some p
+    → IsProps query p
 more_props queries old new own here at pushed count is props each i query p there stands =
     ⊎_elim (λ (was : slice_get old i ≡ Some p). each i query p there was)
     (λ (last : (i ≡ length old) × (own ≡ p)).

@@ -8,7 +8,7 @@ use Rattle.board_moves.proofs.collection.collect.Goals as goal
 pub loop-word-init : goal.loop-word-init
 loop-word-init g c = record {
   seat = c.requires.seat;
-  pass = collecting_none (g.R.GoalRules.meaning c.args.board.now.key.rules) c.args.board.now.key.room
+  pass = collecting_none (g.R.GoalRules.meaning c.args.board.now.setup.rules) c.args.board.now.setup.capacity
       (g.W.Words.has c.args.group.now) (hands c.args.seat.now) (g.W.Members.goal_of c.args.group.now);
 }
 
@@ -25,7 +25,7 @@ loop-word-preserved-in-Absent g c =
     let b = c.args.board.now in
     record {
       seat = c.see.ensures.seat;
-      pass = collecting_past (g.R.GoalRules.meaning b.key.rules) b.key.room (g.W.Words.has c.args.group.now)
+      pass = collecting_past (g.R.GoalRules.meaning b.setup.rules) b.setup.capacity (g.W.Words.has c.args.group.now)
           (hands c.args.seat.now) (g.W.Members.goal_of c.args.group.now) c.loop-word.before c.loop-word.number
           (hands c.loop-word.seat)
           c.loop-word.invariant.pass c.in-Some.word c.in-Some.ensures (hands c.see.new.seat) c.in-Absent.ensures.sees;
@@ -37,7 +37,7 @@ loop-word-preserved g c =
     let sees = c.in-Explored.ensures.sees in
     record {
       seat = c.see.ensures.seat;
-      pass = collecting_next (g.R.GoalRules.meaning b.key.rules) b.key.room (g.W.Words.has c.args.group.now)
+      pass = collecting_next (g.R.GoalRules.meaning b.setup.rules) b.setup.capacity (g.W.Words.has c.args.group.now)
           (hands c.args.seat.now) (g.W.Members.goal_of c.args.group.now) c.loop-word.before c.loop-word.number
           (hands c.loop-word.seat)
           c.loop-word.invariant.pass c.in-Some.word c.in-Some.ensures (hands c.see.new.seat) sees.0 sees.1;
@@ -46,13 +46,14 @@ loop-word-preserved g c =
 pub returns-in-Unexplored-clause-collects : goal.returns-in-Unexplored-clause-collects
 returns-in-Unexplored-clause-collects g c =
     let b = c.args.board.now in
-    meets_open (g.R.GoalRules.meaning b.key.rules) b.key.room (g.W.Words.has c.args.group.now) (hands c.args.seat.now)
+    meets_open (g.R.GoalRules.meaning b.setup.rules) b.setup.capacity (g.W.Words.has c.args.group.now)
+    (hands c.args.seat.now)
     (g.W.Members.goal_of c.args.group.now) c.loop-word.before c.loop-word.number (hands c.loop-word.seat)
     c.loop-word.invariant.pass.pass c.in-Unexplored.goal (hands c.see.new.seat) c.in-Unexplored.ensures.sees
 
 pub returns-clause-collects : goal.returns-clause-collects
 returns-clause-collects g c =
-    collected (g.R.GoalRules.meaning c.args.board.now.key.rules) c.args.board.now.key.room
+    collected (g.R.GoalRules.meaning c.args.board.now.setup.rules) c.args.board.now.setup.capacity
     (g.W.Words.has c.args.group.now) (hands c.args.seat.now) (g.W.Members.goal_of c.args.group.now)
     c.loop-word.before c.loop-word.number (hands c.loop-word.seat)
     c.loop-word.invariant.pass c.in_default.ensures

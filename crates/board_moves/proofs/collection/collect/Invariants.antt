@@ -7,7 +7,7 @@ use Rattle.board_moves.proofs.collection.collect.Given as goal
 abbrev pub invariant-loop-word : goal.invariant-loop-word
 invariant-loop-word g l = record {
   seat : IsSeatOf g.R.GoalRules.meaning l.board l.seat;
-  pass : Collecting (g.R.GoalRules.meaning l.board.key.rules) l.board.key.room (g.W.Words.has l.group)
+  pass : Collecting (g.R.GoalRules.meaning l.board.setup.rules) l.board.setup.capacity (g.W.Words.has l.group)
       (hands l.initial.seat) (g.W.Members.goal_of l.group) l.before l.number (hands l.seat);
 }
 

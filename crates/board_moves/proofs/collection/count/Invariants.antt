@@ -7,7 +7,7 @@ use Rattle.board_moves.proofs.collection.count.Given as goal
 abbrev pub invariant-loop-word : goal.invariant-loop-word
 invariant-loop-word g l = record {
   seat : IsSeatOf g.R.GoalRules.meaning l.board l.seat;
-  pass : Passing (g.R.GoalRules.meaning l.board.key.rules) l.board.key.room (g.W.Words.has l.group)
+  pass : Passing (g.R.GoalRules.meaning l.board.setup.rules) l.board.setup.capacity (g.W.Words.has l.group)
       (hands l.initial.seat) l.before l.number (hands l.seat);
 }
 

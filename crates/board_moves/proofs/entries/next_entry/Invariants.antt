@@ -8,7 +8,7 @@ abbrev pub invariant-loop-word : goal.invariant-loop-word
 invariant-loop-word g l = record {
   seat : IsSeatOf g.R.GoalRules.meaning l.board l.seat;
   looks : OnlyLooks (hands l.fn.seat) (hands l.seat);
-  passes : Passes (IsEntryOf (g.R.GoalRules.meaning l.board.key.rules) (g.W.Words.has l.words)) l.fn.before l.before;
+  passes : Passes (IsEntryOf (g.R.GoalRules.meaning l.board.setup.rules) (g.W.Words.has l.words)) l.fn.before l.before;
 }
 
 abbrev pub decreases-loop-word : goal.decreases-loop-word

@@ -14,7 +14,7 @@ pub rounds-init : goal.rounds-init
 rounds-init g c =
     let b = c.args.board.now in
     let group = c.args.group.now in
-    let meaning = g.R.GoalRules.meaning b.key.rules in
+    let meaning = g.R.GoalRules.meaning b.setup.rules in
     record {
       seat = c.requires.seat;
       right = c.requires.right;
@@ -22,21 +22,21 @@ rounds-init g c =
       hints = c.requires.hints;
       proceeds = proceeds_none (meaning.child c.args.job.now.right.goal) (hands c.args.seat.now) c.args.job.now.right;
       origin = c.requires.origin;
-      knows = knows_none meaning b.key.room (g.W.Words.has group) (g.W.Members.goal_of group)
+      knows = knows_none meaning b.setup.capacity (g.W.Words.has group) (g.W.Members.goal_of group)
           (hands c.args.seat.now).looks;
     }
 
 pub returns-in-Yes-clause-right : goal.returns-in-Yes-clause-right
 returns-in-Yes-clause-right g c =
     let b = c.args.board.now in
-    right_looked (g.R.GoalRules.meaning b.key.rules) b.key.room c.rounds.job.right (hands c.rounds.seat)
+    right_looked (g.R.GoalRules.meaning b.setup.rules) b.setup.capacity c.rounds.job.right (hands c.rounds.seat)
     (hands c.settle.new.seat) c.in-Yes.ensures.settles.0 c.rounds.invariant.right
 
 pub returns-in-Yes-clause-works : goal.returns-in-Yes-clause-works
 returns-in-Yes-clause-works g c =
     let b = c.args.board.now in
     let group = c.args.group.now in
-    let meaning = g.R.GoalRules.meaning b.key.rules in
+    let meaning = g.R.GoalRules.meaning b.setup.rules in
     let Adds = meaning.child c.args.job.now.right.goal in
     let same : c.rounds.job.right.goal ≡ g.W.Group.goal group = c.rounds.invariant.proceeds.same_goal
     ∙ c.requires.goal in (
@@ -46,7 +46,8 @@ returns-in-Yes-clause-works g c =
           c.in-Yes.ensures.settles.0),
       (
         c.rounds.invariant.no_wait,
-        subst (ShowsPromise meaning b.key.room (hands c.settle.new.seat).looks) (sym same) c.in-Yes.ensures.settles.1,
+        subst (ShowsPromise meaning b.setup.capacity (hands c.settle.new.seat).looks) (sym same)
+            c.in-Yes.ensures.settles.1,
         subst (λ (k : ℕ). meaning.answer k 0 0) (sym same) c.requires.answer,
       ),
     )
@@ -55,9 +56,9 @@ pub await_found-requires-clause-right : goal.await_found-requires-clause-right
 await_found-requires-clause-right g c κs within =
     let b = c.args.board.now in
     let group = c.args.group.now in
-    let meaning = g.R.GoalRules.meaning b.key.rules in
-    right_looked meaning b.key.room c.rounds.job.right (hands c.rounds.seat) (hands c.settle.new.seat)
-    (settles_only_looks meaning b.key.room (g.W.Words.has group) (g.W.Members.goal_of group) (hands c.rounds.seat)
+    let meaning = g.R.GoalRules.meaning b.setup.rules in
+    right_looked meaning b.setup.capacity c.rounds.job.right (hands c.rounds.seat) (hands c.settle.new.seat)
+    (settles_only_looks meaning b.setup.capacity (g.W.Words.has group) (g.W.Members.goal_of group) (hands c.rounds.seat)
     (g.W.Group.goal group) c.settle.result (hands c.settle.new.seat) c.settle.ensures.settles)
     c.rounds.invariant.right
 
@@ -65,17 +66,17 @@ pub returns-in-None-clause-works : goal.returns-in-None-clause-works
 returns-in-None-clause-works g c =
     let b = c.args.board.now in
     let group = c.args.group.now in
-    let meaning = g.R.GoalRules.meaning b.key.rules in
+    let meaning = g.R.GoalRules.meaning b.setup.rules in
     let Adds = meaning.child c.args.job.now.right.goal in
-    let looks = settles_only_looks meaning b.key.room (g.W.Words.has group) (g.W.Members.goal_of group)
+    let looks = settles_only_looks meaning b.setup.capacity (g.W.Words.has group) (g.W.Members.goal_of group)
     (hands c.rounds.seat) (g.W.Group.goal group) c.settle.result (hands c.settle.new.seat)
     c.settle.ensures.settles in
-    runs_out_then Adds b.key.room (hands c.args.seat.now) c.args.job.now.right (hands c.settle.new.seat)
+    runs_out_then Adds b.setup.capacity (hands c.args.seat.now) c.args.job.now.right (hands c.settle.new.seat)
     c.rounds.job.right (hands c.await_found.new.seat) c.await_found.new.job.right
     (proceeds_then Adds (hands c.args.seat.now) c.args.job.now.right (hands c.rounds.seat) c.rounds.job.right
     (hands c.settle.new.seat) c.rounds.job.right c.rounds.invariant.proceeds
     (proceeds_looked Adds (hands c.rounds.seat) c.rounds.job.right (hands c.settle.new.seat) looks))
-    (subst (λ k. RunsOut (meaning.child k) (hands c.settle.new.seat) c.rounds.job.right b.key.room
+    (subst (λ k. RunsOut (meaning.child k) (hands c.settle.new.seat) c.rounds.job.right b.setup.capacity
     (hands c.await_found.new.seat) c.await_found.new.job.right) c.rounds.invariant.proceeds.same_goal
     c.in-None.ensures.awaits)
 
@@ -83,9 +84,9 @@ pub returns-then-is_waiting-clause-works : goal.returns-then-is_waiting-clause-w
 returns-then-is_waiting-clause-works g c =
     let b = c.args.board.now in
     let group = c.args.group.now in
-    let meaning = g.R.GoalRules.meaning b.key.rules in
+    let meaning = g.R.GoalRules.meaning b.setup.rules in
     let Adds = meaning.child c.args.job.now.right.goal in
-    let looks = settles_only_looks meaning b.key.room (g.W.Words.has group) (g.W.Members.goal_of group)
+    let looks = settles_only_looks meaning b.setup.capacity (g.W.Words.has group) (g.W.Members.goal_of group)
     (hands c.rounds.seat) (g.W.Group.goal group) c.settle.result (hands c.settle.new.seat)
     c.settle.ensures.settles in (
       proceeds_then Adds (hands c.args.seat.now) c.args.job.now.right (hands c.settle.new.seat) c.rounds.job.right
@@ -103,9 +104,10 @@ pub rounds-smaller : goal.rounds-smaller
 rounds-smaller g c =
     let b = c.args.board.now in
     let group = c.args.group.now in
-    let meaning = g.R.GoalRules.meaning b.key.rules in
+    let meaning = g.R.GoalRules.meaning b.setup.rules in
     let more : c.rounds.known < c.in-Some.number =
-    knows_more meaning b.key.room (g.W.Words.has group) (g.W.Members.goal_of group) (hands c.rounds.seat) c.rounds.known
+    knows_more meaning b.setup.capacity (g.W.Words.has group) (g.W.Members.goal_of group) (hands c.rounds.seat)
+    c.rounds.known
     c.rounds.invariant.knows (g.W.Group.goal group) c.settle.result (hands c.settle.new.seat) c.rounds.job.right
     c.in-Some.number
     (hands c.await_found.new.seat) c.await_found.new.job.right c.in-Some.ensures.awaits c.requires.group.some_word
@@ -116,9 +118,9 @@ pub rounds-preserved : goal.rounds-preserved
 rounds-preserved g c =
     let b = c.args.board.now in
     let group = c.args.group.now in
-    let meaning = g.R.GoalRules.meaning b.key.rules in
+    let meaning = g.R.GoalRules.meaning b.setup.rules in
     let Adds = meaning.child c.args.job.now.right.goal in
-    let looks = settles_only_looks meaning b.key.room (g.W.Words.has group) (g.W.Members.goal_of group)
+    let looks = settles_only_looks meaning b.setup.capacity (g.W.Words.has group) (g.W.Members.goal_of group)
     (hands c.rounds.seat) (g.W.Group.goal group) c.settle.result (hands c.settle.new.seat)
     c.settle.ensures.settles in
     let awaits = c.in-Some.ensures.awaits in
@@ -136,12 +138,13 @@ rounds-preserved g c =
           (proceeds_then Adds (hands c.args.seat.now) c.args.job.now.right (hands c.rounds.seat) c.rounds.job.right
           (hands c.settle.new.seat) c.rounds.job.right c.rounds.invariant.proceeds
           (proceeds_looked Adds (hands c.rounds.seat) c.rounds.job.right (hands c.settle.new.seat) looks)) gone_on;
-      origin = still_shown meaning b.key.room (hands c.settle.new.seat).looks (hands c.await_found.new.seat).looks
+      origin = still_shown meaning b.setup.capacity (hands c.settle.new.seat).looks (hands c.await_found.new.seat).looks
           (later_proceeded Adds (hands c.settle.new.seat) c.rounds.job.right (hands c.await_found.new.seat)
           c.await_found.new.job.right gone_on) (g.W.Group.origin group)
-          (still_shown meaning b.key.room (hands c.rounds.seat).looks (hands c.settle.new.seat).looks
+          (still_shown meaning b.setup.capacity (hands c.rounds.seat).looks (hands c.settle.new.seat).looks
           (later_looked (hands c.rounds.seat) (hands c.settle.new.seat) looks) (g.W.Group.origin group)
           c.rounds.invariant.origin);
-      knows = knows_all meaning b.key.room (g.W.Words.has group) (g.W.Members.goal_of group) (hands c.settle.new.seat)
+      knows = knows_all meaning b.setup.capacity (g.W.Words.has group) (g.W.Members.goal_of group)
+          (hands c.settle.new.seat)
           c.rounds.job.right c.in-Some.number (hands c.await_found.new.seat) c.await_found.new.job.right awaits none;
     }

@@ -10,14 +10,15 @@ use Rattle.board_moves.proofs.exploring.explore_members.Given as goal
 abbrev pub invariant-rounds : goal.invariant-rounds
 invariant-rounds g l = record {
   seat : IsSeatOf g.R.GoalRules.meaning l.board l.seat;
-  right : IsRightOf (g.R.GoalRules.meaning l.board.key.rules) l.board.key.room (hands l.seat) l.job.right;
+  right : IsRightOf (g.R.GoalRules.meaning l.board.setup.rules) l.board.setup.capacity (hands l.seat) l.job.right;
   no_wait : l.job.right.waits ≡ 0;
-  hints : g.H.Hints.capacity l.hints ≡ l.board.key.room;
-  proceeds : Proceeds ((g.R.GoalRules.meaning l.board.key.rules).child l.initial.job.right.goal) (hands l.initial.seat)
+  hints : g.H.Hints.capacity l.hints ≡ l.board.setup.capacity;
+  proceeds : Proceeds ((g.R.GoalRules.meaning l.board.setup.rules).child l.initial.job.right.goal)
+      (hands l.initial.seat)
       l.initial.job.right (hands l.seat) l.job.right;
-  origin : ShowsEntry (g.R.GoalRules.meaning l.board.key.rules) l.board.key.room (hands l.seat).looks
+  origin : ShowsEntry (g.R.GoalRules.meaning l.board.setup.rules) l.board.setup.capacity (hands l.seat).looks
       (g.W.Group.origin l.group);
-  knows : Knows (g.R.GoalRules.meaning l.board.key.rules) l.board.key.room (g.W.Words.has l.group)
+  knows : Knows (g.R.GoalRules.meaning l.board.setup.rules) l.board.setup.capacity (g.W.Words.has l.group)
       (g.W.Members.goal_of l.group) (hands l.seat).looks l.known;
 }
 

@@ -5,10 +5,12 @@ use Rattle.board_tests.proofs.call_tests.answer_at.Goals as goal
 
 pub returns-clause-rights : goal.returns-clause-rights
 returns-clause-rights g c =
-    rights_read (g.R.GoalRules.meaning c.args.board.now.key.rules) c.args.board.now.key.room (hands c.args.seat.now)
+    rights_read (g.R.GoalRules.meaning c.args.board.now.setup.rules) c.args.board.now.setup.capacity
+    (hands c.args.seat.now)
     c.args.at c.answer.result (hands c.answer.new.seat) c.answer.ensures.answer
 
 pub returns-clause-parts : goal.returns-clause-parts
 returns-clause-parts g c =
-    parts_read (g.R.GoalRules.meaning c.args.board.now.key.rules) c.args.board.now.key.room (hands c.args.seat.now)
+    parts_read (g.R.GoalRules.meaning c.args.board.now.setup.rules) c.args.board.now.setup.capacity
+    (hands c.args.seat.now)
     c.args.at c.answer.result (hands c.answer.new.seat) c.answer.ensures.answer

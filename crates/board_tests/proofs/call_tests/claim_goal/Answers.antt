@@ -5,5 +5,6 @@ use Rattle.board_tests.proofs.call_tests.claim_goal.Goals as goal
 
 pub returns-clause-only : goal.returns-clause-only
 returns-clause-only g c =
-    only_claimed (g.R.GoalRules.meaning c.args.board.now.key.rules) c.args.board.now.key.room (hands c.args.seat.now)
+    only_claimed (g.R.GoalRules.meaning c.args.board.now.setup.rules) c.args.board.now.setup.capacity
+    (hands c.args.seat.now)
     c.args.at c.in-Some.right (hands c.claim.new.seat) c.in-Some.ensures.answer c.requires.rights

@@ -5,6 +5,7 @@ use Rattle.board_tests.proofs.call_tests.claim_in_vain.Goals as goal
 
 pub returns-clause-right : goal.returns-clause-right
 returns-clause-right g c =
-    right_seen (g.R.GoalRules.meaning c.args.board.now.key.rules) c.args.board.now.key.room (hands c.args.seat.now)
+    right_seen (g.R.GoalRules.meaning c.args.board.now.setup.rules) c.args.board.now.setup.capacity
+    (hands c.args.seat.now)
     (hands c.find_busy.new.seat) c.find_busy.ensures.looks.0 c.args.right.now c.find_busy.ensures.looks.1
     c.requires.right

@@ -25,7 +25,7 @@ settled-requires-clause-group c = c.goals_are_known.ensures.candidates c.args.qu
 pub settled-requires-clause-origin : goal.settled-requires-clause-origin
 settled-requires-clause-origin c =
     let q = c.args.query.now in
-    let room = c.args.board.now.key.room in
+    let room = c.args.board.now.setup.capacity in
     let word = c.make.result.0 in
     let number : word ≡ word_of (origin_of q c.args.group) = c.make.ensures.number
     ∙ ap word_of c.origin_of_group.ensures in

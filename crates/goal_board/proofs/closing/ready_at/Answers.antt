@@ -12,7 +12,7 @@ returns-then-word-eq0 g c is =
 pub returns-then-not-is_goal : goal.returns-then-not-is_goal
 returns-then-not-is_goal g c is =
     let items = slots_items c.args.words.now.words in
-    let meaning = g.R.GoalRules.meaning c.args.key.now.rules in
+    let meaning = g.R.GoalRules.meaning c.args.setup.now.rules in
     let holds : meaning.goal c.word-word.result ≡ true =
     subst (λ w. IsTrue (meaning.goal w)) (word_at items _ _ _ c.cell_at.ensures c.word-word.ensures) is.is_goal in
     let not_so : meaning.goal c.word-word.result ≡ false = sym c.is_goal.ensures ∙ c.if-not-is_goal.true in
@@ -21,7 +21,7 @@ returns-then-not-is_goal g c is =
 pub returns-then-run-eq0 : goal.returns-then-run-eq0
 returns-then-run-eq0 g c =
     let items = slots_items c.args.words.now.words in
-    let meaning = g.R.GoalRules.meaning c.args.key.now.rules in (
+    let meaning = g.R.GoalRules.meaning c.args.setup.now.rules in (
       record {
         some_goal = λ none. c.if-word-eq0.false (sym (word_at items _ _ _ c.cell_at.ensures c.word-word.ensures)
             ∙ none);

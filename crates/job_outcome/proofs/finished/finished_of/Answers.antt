@@ -12,5 +12,5 @@ loop-place-preserved c =
           c.loop-place.finished.items c.push_reserved.new.self.items c.requires
           c.loop-place-test.true before.made c.push_reserved.ensures.items;
       counted = grind (arith, elements);
-      has_room = grind (arith, elements);
+      enough = grind (arith, elements);
     }

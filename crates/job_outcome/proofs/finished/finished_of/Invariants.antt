@@ -7,5 +7,5 @@ abbrev pub invariant-loop-place : goal.invariant-loop-place
 invariant-loop-place l = record {
   made : l.finished.items ≡ pairs_of (take l.place l.answers) (take l.place l.who);
   counted : length l.finished.items ≡ l.place;
-  has_room : length l.answers ≤ vec_capacity l.finished;
+  enough : length l.answers ≤ vec_capacity l.finished;
 }

@@ -17,8 +17,8 @@ done-requires c =
     let (place, v, its) = c.requires.closed in
     let q = c.args.query.now in
     let closed = c.args.closed in
-    as_many_workers q c.args.cap place (mem its.closes.words) v.done closed
-    (reads_search q c.args.cap place v closed its)
+    as_many_workers q c.args.capacity place (mem its.closes.words) v.done closed
+    (reads_search q c.args.capacity place v closed its)
 
 -- the root's goal was found
 pub returns-then-is_finished-clause-outcome : goal.returns-then-is_finished-clause-outcome
@@ -28,10 +28,10 @@ returns-then-is_finished-clause-outcome c =
     let has = has_root q closed c.as_slice.result.now c.args.root.0 c.as_slice.ensures c.requires.root
     (c.is_finished.ensures.found c.if-is_finished.true) in
     IfOk-weaker c.done.result (Orders closed)
-    (λ (outcome : Outcome). (place : ℕ) (v : Hands Rules) (its : ClosesSearch q c.args.cap place v closed)
-    → IsOutcome q c.args.cap (mem its.closes.words).cell v.done closed outcome)
-    (λ outcome ordered place v its. done_outcome q c.args.cap place (mem its.closes.words) v.done closed
-    (reads_search q c.args.cap place v closed its) has
+    (λ (outcome : Outcome). (place : ℕ) (v : Hands Rules) (its : ClosesSearch q c.args.capacity place v closed)
+    → IsOutcome q c.args.capacity (mem its.closes.words).cell v.done closed outcome)
+    (λ outcome ordered place v its. done_outcome q c.args.capacity place (mem its.closes.words) v.done closed
+    (reads_search q c.args.capacity place v closed its) has
     (c.answers_are_best.ensures.fits q) (c.goals_are_known.ensures.requests q) (c.goals_ask_for_members.ensures.all q)
     (c.members_are_known.ensures.small q) outcome ordered)
     c.done.ensures
@@ -44,10 +44,11 @@ returns-then-is_finished-clause-full c =
     let has = has_root q closed c.as_slice.result.now c.args.root.0 c.as_slice.ensures c.requires.root
     (c.is_finished.ensures.found c.if-is_finished.true) in
     IfOk-weaker c.done.result (Orders closed) (λ (outcome : Outcome). (place : ℕ) (v : Hands Rules)
-    → ClosesSearch q c.args.cap place v closed → ShowsFull v.looks → IsFullCase outcome)
-    (λ outcome ordered place v its shown. full_case q c.args.cap (mem its.closes.words).cell v.done closed
+    → ClosesSearch q c.args.capacity place v closed → ShowsFull v.looks → IsFullCase outcome)
+    (λ outcome ordered place v its shown. full_case q c.args.capacity (mem its.closes.words).cell v.done closed
     (its.closes.filled shown) outcome
-    (done_outcome q c.args.cap place (mem its.closes.words) v.done closed (reads_search q c.args.cap place v closed its)
+    (done_outcome q c.args.capacity place (mem its.closes.words) v.done closed
+    (reads_search q c.args.capacity place v closed its)
     has
     (c.answers_are_best.ensures.fits q) (c.goals_are_known.ensures.requests q) (c.goals_ask_for_members.ensures.all q)
     (c.members_are_known.ensures.small q) outcome ordered))
@@ -60,7 +61,8 @@ returns-then-closed-clause-outcome c place v its =
     let closed = c.args.closed in
     let open_root = has_no_root q closed c.as_slice.result.now c.args.root.0 c.as_slice.ensures c.requires.root
     (c.is_finished.ensures.absent c.if-is_finished.false) in
-    is_full q c.args.cap place (mem its.closes.words) v.done closed (reads_search q c.args.cap place v closed its)
+    is_full q c.args.capacity place (mem its.closes.words) v.done closed
+    (reads_search q c.args.capacity place v closed its)
     open_root c.if-closed.true
 
 -- a head that was seen closed is that of a goal that was found
@@ -70,8 +72,8 @@ returns-then-closed-clause-finished c place v its shown =
     let closed = c.args.closed in
     has_no_root q closed c.as_slice.result.now c.args.root.0 c.as_slice.ensures c.requires.root
     (c.is_finished.ensures.absent c.if-is_finished.false)
-    (finished_root q c.args.cap place (mem its.closes.words) v.done closed
-    (reads_search q c.args.cap place v closed its) (shown_closed q c.args.cap place v closed its shown))
+    (finished_root q c.args.capacity place (mem its.closes.words) v.done closed
+    (reads_search q c.args.capacity place v closed its) (shown_closed q c.args.capacity place v closed its shown))
 
 -- where no goal is ready, the root's goal is finished
 pub unreachable-requires : goal.unreachable-requires
@@ -81,7 +83,8 @@ unreachable-requires c =
     let closed = c.args.closed in
     has_no_root q closed c.as_slice.result.now c.args.root.0 c.as_slice.ensures c.requires.root
     (c.is_finished.ensures.absent c.if-is_finished.false)
-    (none_left q c.args.cap place (mem its.closes.words) v.done closed (reads_search q c.args.cap place v closed its)
+    (none_left q c.args.capacity place (mem its.closes.words) v.done closed
+    (reads_search q c.args.capacity place v closed its)
     c.in-None.is)
 
 pub returns-clause-outcome : goal.returns-clause-outcome
@@ -90,7 +93,8 @@ returns-clause-outcome c place v its =
     let closed = c.args.closed in
     let open_root = has_no_root q closed c.as_slice.result.now c.args.root.0 c.as_slice.ensures c.requires.root
     (c.is_finished.ensures.absent c.if-is_finished.false) in
-    is_unfinished q c.args.cap place (mem its.closes.words) v.done closed (reads_search q c.args.cap place v closed its)
+    is_unfinished q c.args.capacity place (mem its.closes.words) v.done closed
+    (reads_search q c.args.capacity place v closed its)
     (c.members_are_known.ensures.small q)
     open_root c.if-closed.false c.in-Some.ready c.in-Some.is
 
@@ -100,5 +104,5 @@ returns-clause-finished c place v its shown =
     let closed = c.args.closed in
     has_no_root q closed c.as_slice.result.now c.args.root.0 c.as_slice.ensures c.requires.root
     (c.is_finished.ensures.absent c.if-is_finished.false)
-    (finished_root q c.args.cap place (mem its.closes.words) v.done closed
-    (reads_search q c.args.cap place v closed its) (shown_closed q c.args.cap place v closed its shown))
+    (finished_root q c.args.capacity place (mem its.closes.words) v.done closed
+    (reads_search q c.args.capacity place v closed its) (shown_closed q c.args.capacity place v closed its shown))

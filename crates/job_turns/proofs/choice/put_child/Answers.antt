@@ -43,7 +43,7 @@ returns-in-Full-clause-puts g c =
     let right = c.args.job.now.right in
     let known = (c.words_are_known.ensures.words q c.requires.at_work.has_job.board.small child.0 c.args.child
     right.goal child.1 child.2).0 in
-    runs_out_at (meaning_of q) c.args.board.now.key.room (IsChildWord q right.goal) (hands c.args.seat.now) right
+    runs_out_at (meaning_of q) c.args.board.now.setup.capacity (IsChildWord q right.goal) (hands c.args.seat.now) right
     c.word.result.0 (hands c.put_goal.new.seat) (subst (IsChildWord q right.goal) (sym c.word.ensures.number) known)
     c.in-Full.ensures.answer
 
@@ -63,6 +63,6 @@ returns-in_default-clause-puts g c =
     let right = c.args.job.now.right in
     let known = (c.words_are_known.ensures.words q c.requires.at_work.has_job.board.small child.0 c.args.child
     right.goal child.1 child.2).0 in
-    proceeds_put (meaning_of q) c.args.board.now.key.room (IsChildWord q right.goal) (hands c.args.seat.now) right
+    proceeds_put (meaning_of q) c.args.board.now.setup.capacity (IsChildWord q right.goal) (hands c.args.seat.now) right
     c.word.result.0 c.put_goal.result (hands c.put_goal.new.seat)
     (subst (IsChildWord q right.goal) (sym c.word.ensures.number) known) c.in_default.not-Full c.put_goal.ensures.answer

@@ -70,7 +70,7 @@ returns-in-Known-clause-chooses g c =
     let wanted = c.args.wanted in
     let fits = c.goals_are_known.ensures.requests q (Opt group wanted) c.requires.goal.is_goal in
     let found = found_at q group wanted c.args.place fits c.in-Some.enforced c.in-Some.ensures in
-    finds_told q b.key.room (hands c.args.seat.now) c.args.job.now.right
+    finds_told q b.setup.capacity (hands c.args.seat.now) c.args.job.now.right
     (λ goal. goal ≡ Opt group c.in-Some.enforced.below) (IsEnforcerGoalAt group wanted c.args.place)
     (IsAnswerTo q (Opt group c.in-Some.enforced.below))
     (IsBest q group wanted (enforcer_at wanted c.args.place))
@@ -88,7 +88,7 @@ returns-in-Open-clause-chooses g c =
     let wanted = c.args.wanted in
     let fits = c.goals_are_known.ensures.requests q (Opt group wanted) c.requires.goal.is_goal in
     let found = found_at q group wanted c.args.place fits c.in-Some.enforced c.in-Some.ensures in
-    finds_told q b.key.room (hands c.args.seat.now) c.args.job.now.right
+    finds_told q b.setup.capacity (hands c.args.seat.now) c.args.job.now.right
     (λ goal. goal ≡ Opt group c.in-Some.enforced.below) (IsEnforcerGoalAt group wanted c.args.place)
     (IsAnswerTo q (Opt group c.in-Some.enforced.below))
     (IsBest q group wanted (enforcer_at wanted c.args.place))
@@ -104,7 +104,8 @@ returns-in-None-clause-chooses g c =
     let group = c.args.group in
     let wanted = c.args.wanted in
     let none = c.in-None.ensures in
-    finds_none q b.key.room (hands c.args.seat.now) c.args.job.now.right (IsEnforcerGoalAt group wanted c.args.place)
+    finds_none q b.setup.capacity (hands c.args.seat.now) c.args.job.now.right
+    (IsEnforcerGoalAt group wanted c.args.place)
     (IsBest q group wanted (enforcer_at wanted c.args.place)) (no_goal q group wanted c.args.place none) None
     (subst (λ (there : Option EnforcedBy). IsBest q group wanted (enforcer_alone there) None)
     (sym (no_node q group wanted c.args.place none)) (c.answers_are_best.ensures.none q group wanted))

@@ -20,7 +20,7 @@ pub returns-in_err-second-clause-chooses : goal.returns-in_err-second-clause-cho
 returns-in_err-second-clause-chooses g c =
     let q = c.args.query.now in
     rw c.from_residual-in_err-second.ensures
-    (chooses_none q c.args.board.now.key.room (hands c.args.seat.now) c.args.job.now.right
+    (chooses_none q c.args.board.now.setup.capacity (hands c.args.seat.now) c.args.job.now.right
     (IsEnforcerGoalAt c.args.group c.args.wanted 0)
     (IsBest q c.args.group c.args.wanted (enforcer_at c.args.wanted 0)) c.in_ok-first.first
     (hands c.await_enforcer.new.seat) c.await_enforcer.new.job.right (hands c.await_enforcer-2.new.seat)
@@ -37,7 +37,7 @@ returns-clause-chooses g c =
     let w = hands c.await_enforcer-2.new.seat in
     let after = c.await_enforcer-2.new.job.right in
     let fits = c.goals_are_known.ensures.requests q (Opt group wanted) c.requires.goal.is_goal in
-    let both = finds_both q b.key.room v start (IsEnforcerGoalAt group wanted 0) (IsEnforcerGoalAt group wanted 1)
+    let both = finds_both q b.setup.capacity v start (IsEnforcerGoalAt group wanted 0) (IsEnforcerGoalAt group wanted 1)
     (IsBest q group wanted (enforcer_at wanted 0)) (IsBest q group wanted (enforcer_at wanted 1))
     (IsBest q group wanted (first_enforcers wanted))
     (λ first second is also. c.answers_are_best.ensures.lesser q c.args.props.now c.requires.props group wanted
@@ -45,8 +45,8 @@ returns-clause-chooses g c =
     c.in_ok-second.second
     (hands c.await_enforcer.new.seat) c.await_enforcer.new.job.right w after c.in_ok-first.ensures.chooses
     c.in_ok-second.ensures.chooses in
-    subst (λ (choice : Choice). FindsChoice q b.key.room v start (IsEnforcerGoal q group wanted)
+    subst (λ (choice : Choice). FindsChoice q b.setup.capacity v start (IsEnforcerGoal q group wanted)
     (IsBest q group wanted (first_enforcers wanted)) choice w after) (sym c.or.ensures)
-    (finds_others q b.key.room v start _ (IsEnforcerGoal q group wanted)
+    (finds_others q b.setup.capacity v start _ (IsEnforcerGoal q group wanted)
     (IsBest q group wanted (first_enforcers wanted)) (IsBest q group wanted (first_enforcers wanted))
     (goal_of_first wanted q group) (λ best is. is) _ w after both)

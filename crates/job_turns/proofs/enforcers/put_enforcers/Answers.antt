@@ -8,7 +8,7 @@ returns-then-not-put_enforcer-clause-puts g c = c.if-not-put_enforcer.ensures.pu
 
 pub returns-clause-puts : goal.returns-clause-puts
 returns-clause-puts g c =
-    puts_children_then c.args.query.now c.args.board.now.key.room (hands c.args.seat.now) c.args.job.now.right
+    puts_children_then c.args.query.now c.args.board.now.setup.capacity (hands c.args.seat.now) c.args.job.now.right
     (hands c.put_enforcer.new.seat) c.put_enforcer-2.result (hands c.put_enforcer-2.new.seat)
     c.if-not-put_enforcer.ensures.puts
     c.put_enforcer-2.ensures.puts

@@ -11,8 +11,9 @@ use Rattle.job_turns.proofs.expressions.await_rules.Goals as goal
 pub loop-rule-init : goal.loop-rule-init
 loop-rule-init g c = record {
   at_work = c.requires.at_work;
-  awaited = has_none c.args.query.now c.args.board.now.key.room (hands c.args.seat.now) c.args.job.now.right
-      (IsRuleBefore c.args.query.now c.args.phase c.args.e c.rules_to_try-rules.result.now 0) (λ child is. let none = is.1 in
+  awaited = has_none c.args.query.now c.args.board.now.setup.capacity (hands c.args.seat.now) c.args.job.now.right
+      (IsRuleBefore c.args.query.now c.args.phase c.args.e c.rules_to_try-rules.result.now 0)
+      (λ child is. let none = is.1 in
       absurd (omega arith));
 }
 
@@ -24,7 +25,7 @@ await_if-requires-clause-child g c = λ child is.
 
 pub returns-then-not-await_if-clause-awaits : goal.returns-then-not-await_if-clause-awaits
 returns-then-not-await_if-clause-awaits g c =
-    runs_out_after c.args.query.now c.args.board.now.key.room (hands c.args.seat.now) c.args.job.now.right
+    runs_out_after c.args.query.now c.args.board.now.setup.capacity (hands c.args.seat.now) c.args.job.now.right
     (IsRuleBefore c.args.query.now c.args.phase c.args.e c.rules_to_try-rules.result.now c.loop-rule.rule-index)
     (hands c.loop-rule.seat) c.loop-rule.job.right
     (hands c.await_if.new.seat) c.await_if.new.job.right c.loop-rule.invariant.awaited c.if-not-await_if.ensures.awaits
@@ -37,12 +38,13 @@ loop-rule-preserved g c =
     let here : GoalKind → Type 0 = λ child. c.rule_goal-goal.result ≡ Some child in
     record {
       at_work = c.await_if.ensures.at_work;
-      awaited = has_others q b.key.room (hands c.args.seat.now) c.args.job.now.right (λ child. before child
-          ⊎ here child) (IsRuleBefore q c.args.phase c.args.e c.rules_to_try-rules.result.now (c.loop-rule.rule-index + 1))
+      awaited = has_others q b.setup.capacity (hands c.args.seat.now) c.args.job.now.right (λ child. before child
+          ⊎ here child) (IsRuleBefore q c.args.phase c.args.e c.rules_to_try-rules.result.now
+          (c.loop-rule.rule-index + 1))
           (λ child is. ⊎_elim (λ old. inl old) (λ new. inr ((c.rule_goal-goal.ensures child).1 new))
           (rule_more q c.args.phase c.args.e c.rules_to_try-rules.result.now c.loop-rule.rule-index child is))
           (hands c.await_if.new.seat) c.await_if.new.job.right
-          (has_both q b.key.room (hands c.args.seat.now) c.args.job.now.right before here (hands c.loop-rule.seat)
+          (has_both q b.setup.capacity (hands c.args.seat.now) c.args.job.now.right before here (hands c.loop-rule.seat)
           c.loop-rule.job.right (hands c.await_if.new.seat) c.await_if.new.job.right c.loop-rule.invariant.awaited
           c.if-not-await_if.ensures.awaits);
     }
@@ -51,7 +53,7 @@ pub returns-clause-awaits : goal.returns-clause-awaits
 returns-clause-awaits g c =
     let q = c.args.query.now in
     let b = c.args.board.now in
-    has_others q b.key.room (hands c.args.seat.now) c.args.job.now.right
+    has_others q b.setup.capacity (hands c.args.seat.now) c.args.job.now.right
     (IsRuleBefore q c.args.phase c.args.e c.rules_to_try-rules.result.now c.loop-rule.rule-index)
     (IsRuleAt q c.args.phase c.args.e)
     (λ child is. each_rule q c.args.phase c.args.e c.rules_to_try-rules.result.now c.loop-rule.rule-index child

@@ -8,6 +8,6 @@ use Rattle.job_turns.proofs.expressions.await_rules.Given as goal
 abbrev pub invariant-loop-rule : goal.invariant-loop-rule
 invariant-loop-rule g l = record {
   at_work : IsAtWork l.query l.board l.seat l.job (g.H.Hints.capacity l.hints);
-  awaited : HasAwaited l.query l.board.key.room (hands l.initial.seat) l.initial.job.right
+  awaited : HasAwaited l.query l.board.setup.capacity (hands l.initial.seat) l.initial.job.right
       (IsRuleBefore l.query l.phase l.e l.rules l.rule-index) (hands l.seat) l.job.right;
 }

@@ -22,7 +22,7 @@ pub returns-then-not-await_both-clause-works : goal.returns-then-not-await_both-
 returns-then-not-await_both-clause-works g c =
     let q = c.args.query.now in
     runs_out q (c.words_are_known.ensures.children q) c.requires.at_work.has_job.board.small
-    (phase_goal_of_expr c.args.phase c.args.e) c.args.board.now.key.room (hands c.args.seat.now)
+    (phase_goal_of_expr c.args.phase c.args.e) c.args.board.now.setup.capacity (hands c.args.seat.now)
     c.args.job.now.right
     (hands c.await_both.new.seat) c.await_both.new.job.right c.requires.goal c.if-not-await_both.ensures.awaits
 
@@ -40,9 +40,10 @@ returns-then-not-await_rules-clause-works g c =
     let q = c.args.query.now in
     let b = c.args.board.now in
     runs_out q (c.words_are_known.ensures.children q) c.requires.at_work.has_job.board.small
-    (phase_goal_of_expr c.args.phase c.args.e) b.key.room (hands c.args.seat.now) c.args.job.now.right
+    (phase_goal_of_expr c.args.phase c.args.e) b.setup.capacity (hands c.args.seat.now) c.args.job.now.right
     (hands c.await_rules.new.seat) c.await_rules.new.job.right c.requires.goal
-    (runs_out_after q b.key.room (hands c.args.seat.now) c.args.job.now.right (IsOneOf c.group_goals-groups.result)
+    (runs_out_after q b.setup.capacity (hands c.args.seat.now) c.args.job.now.right
+    (IsOneOf c.group_goals-groups.result)
     (hands c.await_both.new.seat) c.await_both.new.job.right (hands c.await_rules.new.seat)
     c.await_rules.new.job.right c.if-not-await_both.ensures.awaits c.if-not-await_rules.ensures.awaits)
 
@@ -60,9 +61,10 @@ returns-clause-works g c =
     (λ child. groups child ⊎ rules child)
     (λ child is. ⊎_elim (λ of_group. inl ((c.group_goals-groups.ensures child).1 of_group)) (λ of_rule. inr of_rule)
     ((children_in_phase q (IsMember q) phase e child).0 is))
-    b.key.room (hands c.args.seat.now) c.args.job.now.right (hands c.await_rules.new.seat) c.await_rules.new.job.right
+    b.setup.capacity (hands c.args.seat.now) c.args.job.now.right (hands c.await_rules.new.seat)
+    c.await_rules.new.job.right
     c.progress.result c.requires.goal
-    (has_both q b.key.room (hands c.args.seat.now) c.args.job.now.right groups rules (hands c.await_both.new.seat)
+    (has_both q b.setup.capacity (hands c.args.seat.now) c.args.job.now.right groups rules (hands c.await_both.new.seat)
     c.await_both.new.job.right (hands c.await_rules.new.seat) c.await_rules.new.job.right
     c.if-not-await_both.ensures.awaits c.if-not-await_rules.ensures.awaits)
     c.progress.ensures

@@ -49,11 +49,11 @@ returns-clause-works g c =
     let b = c.args.board.now in
     let group = c.args.group in
     let right = c.args.job.now.right in
-    works_wider (meaning_of q) b.key.room (ExplorationAdds (meaning_of q) (origin_word q group) right.goal)
+    works_wider (meaning_of q) b.setup.capacity (ExplorationAdds (meaning_of q) (origin_word q group) right.goal)
     (Adds q (Exp group)) (exploration_adds q group (c.words_are_known.ensures.children q)
     c.requires.at_work.has_job.board.small right.goal c.requires.goal)
     (hands c.args.seat.now) right c.explore.result (hands c.explore.new.seat) c.explore.new.job.right
-    (subst (λ (p : Query). Works (meaning_of p) b.key.room
+    (subst (λ (p : Query). Works (meaning_of p) b.setup.capacity
     (ExplorationAdds (meaning_of p) (origin_word q group) right.goal) (hands c.args.seat.now) right c.explore.result
     (hands c.explore.new.seat) c.explore.new.job.right) c.requires.at_work.has_job.board.same_query
     c.explore.ensures.works)

@@ -22,7 +22,7 @@ pub returns-in-Full-clause-works : goal.returns-in-Full-clause-works
 returns-in-Full-clause-works g c =
     let q = c.args.query.now in
     runs_out q (c.words_are_known.ensures.children q) c.requires.at_work.has_job.board.small (Imp c.args.group)
-    c.args.board.now.key.room (hands c.args.seat.now) c.args.job.now.right (hands c.await_goal.new.seat)
+    c.args.board.now.setup.capacity (hands c.args.seat.now) c.args.job.now.right (hands c.await_goal.new.seat)
     c.await_goal.new.job.right c.requires.goal
     c.in-Full.ensures.awaits
 
@@ -65,11 +65,11 @@ returns-in-Some-clause-works g c =
       explored = known.explored q;
     }) (c.members_are_candidates.ensures q)
     (c.words_are_known.ensures.children q)
-    (c.words_are_known.ensures.asked q) c.requires.at_work.has_job.board.small b.key.room (hands c.args.seat.now)
+    (c.words_are_known.ensures.asked q) c.requires.at_work.has_job.board.small b.setup.capacity (hands c.args.seat.now)
     (hands c.await_goal.new.seat) (hands c.await_found.new.seat) c.args.job.now.right c.await_goal.new.job.right
     c.await_found.new.job.right c.in-Some.field-0 c.progress.result
     c.requires.goal c.in-Complete.ensures.awaits.0 c.in-Complete.ensures.awaits.2.finished
-    (subst (λ (p : Query). AwaitsAll (meaning_of p) b.key.room (hands c.await_goal.new.seat)
+    (subst (λ (p : Query). AwaitsAll (meaning_of p) b.setup.capacity (hands c.await_goal.new.seat)
     (IsLogicalWord q c.args.group) implemented c.await_goal.new.job.right c.in-Some.field-0
     (hands c.await_found.new.seat) c.await_found.new.job.right)
     c.requires.at_work.has_job.board.same_query c.in-Some.ensures.awaits)
@@ -80,14 +80,15 @@ returns-in-None-clause-works g c =
     let q = c.args.query.now in
     let b = c.args.board.now in
     let here = subst (λ (p : Query). RunsOut (IsChildWord p c.await_goal.new.job.right.goal)
-    (hands c.await_goal.new.seat) c.await_goal.new.job.right b.key.room (hands c.await_found.new.seat)
+    (hands c.await_goal.new.seat) c.await_goal.new.job.right b.setup.capacity (hands c.await_found.new.seat)
     c.await_found.new.job.right) c.requires.at_work.has_job.board.same_query c.in-None.ensures.awaits in
     let first = c.in-Complete.ensures.awaits.0 in
     runs_out q (c.words_are_known.ensures.children q) c.requires.at_work.has_job.board.small (Imp c.args.group)
-    b.key.room (hands c.args.seat.now) c.args.job.now.right (hands c.await_found.new.seat)
+    b.setup.capacity (hands c.args.seat.now) c.args.job.now.right (hands c.await_found.new.seat)
     c.await_found.new.job.right c.requires.goal
-    (runs_out_then (IsChildWord q c.args.job.now.right.goal) b.key.room (hands c.args.seat.now) c.args.job.now.right
+    (runs_out_then (IsChildWord q c.args.job.now.right.goal) b.setup.capacity (hands c.args.seat.now)
+    c.args.job.now.right
     (hands c.await_goal.new.seat) c.await_goal.new.job.right (hands c.await_found.new.seat)
     c.await_found.new.job.right first
-    (subst (λ k. RunsOut (IsChildWord q k) (hands c.await_goal.new.seat) c.await_goal.new.job.right b.key.room
+    (subst (λ k. RunsOut (IsChildWord q k) (hands c.await_goal.new.seat) c.await_goal.new.job.right b.setup.capacity
     (hands c.await_found.new.seat) c.await_found.new.job.right) first.same_goal here))

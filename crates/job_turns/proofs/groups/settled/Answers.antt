@@ -19,11 +19,11 @@ pub settle-requires-clause-group : goal.settle-requires-clause-group
 settle-requires-clause-group c κs =
     let q = c.args.query.now in
     let group = c.args.group in
-    let room = c.args.board.now.key.room in
+    let capacity = c.args.board.now.setup.capacity in
     let looks = (hands c.args.seat.now).looks in
-    let found : FindEntries q room looks =
-    subst (λ (p : Query). FindEntries p room looks) c.requires.board.same_query c.requires.seat.over.entries in
-    let is_goal = explored_group q room looks found (c.entries_are_known.ensures.members q)
+    let found : FindEntries q capacity looks =
+    subst (λ (p : Query). FindEntries p capacity looks) c.requires.board.same_query c.requires.seat.over.entries in
+    let is_goal = explored_group q capacity looks found (c.entries_are_known.ensures.members q)
     (c.goals_ask_for_members.ensures.all q) group (c.candidates_are_known.ensures.origins q group c.requires.group)
     c.requires.origin in
     subst (λ (p : Query). IsExploration (meaning_of p) (origin_word q group) (IsLogicalWord q group) explored
@@ -33,13 +33,13 @@ settle-requires-clause-group c κs =
 pub settle-requires-clause-origin : goal.settle-requires-clause-origin
 settle-requires-clause-origin c κs =
     let q = c.args.query.now in
-    subst (λ (p : Query). ShowsEntry (meaning_of p) c.args.board.now.key.room (hands c.args.seat.now).looks
+    subst (λ (p : Query). ShowsEntry (meaning_of p) c.args.board.now.setup.capacity (hands c.args.seat.now).looks
     (origin_word q c.args.group)) (sym c.requires.board.same_query) c.requires.origin
 
 pub returns-clause-settles : goal.returns-clause-settles
 returns-clause-settles c =
     let q = c.args.query.now in
-    subst (λ (p : Query). Settles (meaning_of p) c.args.board.now.key.room (IsLogicalWord q c.args.group) explored
+    subst (λ (p : Query). Settles (meaning_of p) c.args.board.now.setup.capacity (IsLogicalWord q c.args.group) explored
     (hands c.args.seat.now) (goal_word (Exp c.args.group)) c.settle.result (hands c.settle.new.seat))
     c.requires.board.same_query
     c.settle.ensures.settles

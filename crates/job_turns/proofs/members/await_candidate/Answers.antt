@@ -39,12 +39,13 @@ returns-in-None-clause-chooses g c =
     let q = c.args.query.now in
     let e = c.args.candidate.expr in
     let wanted = c.args.wanted in
-    let room = c.args.board.now.key.room in
+    let capacity = c.args.board.now.setup.capacity in
     let v = hands c.args.seat.now in
     let none : CanServe (IsMember q) q e.group wanted e → ⊥ = c.in-None.ensures.goal in
-    finds_looked q room v c.args.job.now.right (IsGoalOfMember q e wanted) (IsBestOfMember q e wanted) (Known None) v
+    finds_looked q capacity v c.args.job.now.right (IsGoalOfMember q e wanted) (IsBestOfMember q e wanted)
+    (Known None) v
     c.args.job.now.right (hands c.goal_here.new.seat)
-    (finds_none q room v c.args.job.now.right (IsGoalOfMember q e wanted) (IsBestOfMember q e wanted)
+    (finds_none q capacity v c.args.job.now.right (IsGoalOfMember q e wanted) (IsBestOfMember q e wanted)
     (λ child is. none is.0) None (best_without q e.group wanted (c.answers_are_best.ensures.none q) e none))
     c.goal_here.ensures.looks
 
@@ -66,13 +67,14 @@ returns-in-Some-clause-chooses g c =
     let q = c.args.query.now in
     let e = c.args.candidate.expr in
     let wanted = c.args.wanted in
-    let room = c.args.board.now.key.room in
+    let capacity = c.args.board.now.setup.capacity in
     let v = hands c.args.seat.now in
     let before = c.args.job.now.right in
     let w = hands c.await_choice.new.seat in
     let after = c.await_choice.new.job.right in
-    looks_choose q room v before (IsGoalOfMember q e wanted) (IsBestOfMember q e wanted) (hands c.goal_here.new.seat)
+    looks_choose q capacity v before (IsGoalOfMember q e wanted) (IsBestOfMember q e wanted)
+    (hands c.goal_here.new.seat)
     c.goal_here.ensures.looks c.await_choice.result w after
-    (chooses_others q room (hands c.goal_here.new.seat) before (λ (child : GoalKind). child ≡ OptE e wanted)
+    (chooses_others q capacity (hands c.goal_here.new.seat) before (λ (child : GoalKind). child ≡ OptE e wanted)
     (IsGoalOfMember q e wanted) (IsAnswerTo q (OptE e wanted)) (IsBestOfMember q e wanted)
     (λ child is. is.1) (best_with q e.group wanted e) c.await_choice.result w after c.await_choice.ensures.chooses)

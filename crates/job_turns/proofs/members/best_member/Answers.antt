@@ -29,7 +29,7 @@ loop-candidate-init g c =
     let wanted = c.args.wanted in
     record {
       at_work = c.requires.at_work;
-      found = finds_none q c.args.board.now.key.room (hands c.args.seat.now) c.args.job.now.right
+      found = finds_none q c.args.board.now.setup.capacity (hands c.args.seat.now) c.args.job.now.right
           (IsMemberGoalAmong q group wanted []) (IsBestAmong q group wanted []) (member_goal_none q group wanted)
           None (best_none q group wanted (c.answers_are_best.ensures.none q));
     }
@@ -51,12 +51,12 @@ await_candidate-requires-clause-goal g c =
 pub await_candidate-requires-clause-implemented : goal.await_candidate-requires-clause-implemented
 await_candidate-requires-clause-implemented g c =
     let q = c.args.query.now in
-    let room = c.args.board.now.key.room in
+    let capacity = c.args.board.now.setup.capacity in
     let looks = (hands c.loop-candidate.seat).looks in
     of_candidate q c.args.group c.args.wanted c.physical_of-candidates.result.now c.physical_of-candidates.ensures
-    c.loop-candidate.candidate-index _ c.loop-candidate-test.true (IsImplemented q room looks) (record {
+    c.loop-candidate.candidate-index _ c.loop-candidate-test.true (IsImplemented q capacity looks) (record {
       is_goal = c.requires.implemented.is_goal;
-      finished = still_finished (meaning_of q) room (hands c.args.seat.now).looks looks
+      finished = still_finished (meaning_of q) capacity (hands c.args.seat.now).looks looks
           (later_proceeded (IsChildWord q c.args.job.now.right.goal) (hands c.args.seat.now) c.args.job.now.right
           (hands c.loop-candidate.seat) c.loop-candidate.job.right
           c.loop-candidate.invariant.found.awaited.proceeds) (goal_word (Imp c.args.group))
@@ -68,7 +68,7 @@ returns-in_err-other-clause-chooses g c =
     let q = c.args.query.now in
     let tried = take c.loop-candidate.candidate-index c.physical_of-candidates.result.now in
     rw c.from_residual.ensures
-    (chooses_none q c.args.board.now.key.room (hands c.args.seat.now) c.args.job.now.right
+    (chooses_none q c.args.board.now.setup.capacity (hands c.args.seat.now) c.args.job.now.right
     (IsMemberGoalAmong q c.args.group c.args.wanted tried) (IsBestAmong q c.args.group c.args.wanted tried)
     c.loop-candidate.choice
     (hands c.loop-candidate.seat) c.loop-candidate.job.right (hands c.await_candidate.new.seat)
@@ -77,7 +77,7 @@ returns-in_err-other-clause-chooses g c =
 pub loop-candidate-preserved : goal.loop-candidate-preserved
 loop-candidate-preserved g c =
     let q = c.args.query.now in
-    let room = c.args.board.now.key.room in
+    let capacity = c.args.board.now.setup.capacity in
     let group = c.args.group in
     let wanted = c.args.wanted in
     let v = hands c.args.seat.now in
@@ -89,10 +89,11 @@ loop-candidate-preserved g c =
     let fits = c.goals_are_known.ensures.requests q (Opt group wanted) c.requires.goal.is_goal in
     record {
       at_work = c.await_candidate.ensures.at_work;
-      found = subst (λ (choice : Choice). FindsChoice q room v start
+      found = subst (λ (choice : Choice). FindsChoice q capacity v start
           (IsMemberGoalAmong q group wanted (take (i + 1) candidates))
           (IsBestAmong q group wanted (take (i + 1) candidates)) choice w after) (sym c.or-choice.ensures)
-          (finds_more q group wanted candidates c.physical_of-candidates.ensures i _ c.loop-candidate-test.true room v
+          (finds_more q group wanted candidates c.physical_of-candidates.ensures i _ c.loop-candidate-test.true
+          capacity v
           start (c.answers_are_best.ensures.lesser q) c.args.props.now c.requires.props fits c.loop-candidate.choice
           c.in_ok-other.other
           (hands c.loop-candidate.seat) c.loop-candidate.job.right w after c.loop-candidate.invariant.found
@@ -102,7 +103,7 @@ loop-candidate-preserved g c =
 pub returns-clause-chooses : goal.returns-clause-chooses
 returns-clause-chooses g c =
     let q = c.args.query.now in
-    let room = c.args.board.now.key.room in
+    let capacity = c.args.board.now.setup.capacity in
     let group = c.args.group in
     let wanted = c.args.wanted in
     let v = hands c.args.seat.now in
@@ -112,11 +113,11 @@ returns-clause-chooses g c =
     let w = hands c.loop-candidate.seat in
     let after = c.loop-candidate.job.right in
     let found = subst (λ (list : List PhysicalCandidate).
-    FindsChoice q room v start (IsMemberGoalAmong q group wanted list) (IsBestAmong q group wanted list)
+    FindsChoice q capacity v start (IsMemberGoalAmong q group wanted list) (IsBestAmong q group wanted list)
     c.loop-candidate.choice w after)
     (take_all c.loop-candidate.candidate-index candidates c.loop-candidate-test.false)
     c.loop-candidate.invariant.found in
-    finds_others q room v start (IsMemberGoalAmong q group wanted candidates) (IsMemberGoal q group wanted)
+    finds_others q capacity v start (IsMemberGoalAmong q group wanted candidates) (IsMemberGoal q group wanted)
     (IsBestAmong q group wanted candidates) (IsBestOfMembers q group wanted)
     (member_goal_all q group wanted (c.members_are_candidates.ensures q) candidates c.physical_of-candidates.ensures)
     (best_all q group wanted (c.members_are_candidates.ensures q) candidates c.physical_of-candidates.ensures)

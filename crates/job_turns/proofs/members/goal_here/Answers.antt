@@ -59,7 +59,7 @@ returns-then-is_made-clause-goal c =
 
 -- any other is looked for
 pub returns-then-holds-clause-looks : goal.returns-then-holds-clause-looks
-returns-then-holds-clause-looks c = only_looks_held c.args.board.now.key.room (hands c.args.seat.now)
+returns-then-holds-clause-looks c = only_looks_held c.args.board.now.setup.capacity (hands c.args.seat.now)
     c.args.candidate.word c.holds.result (hands c.holds.new.seat) c.holds.ensures.answer
 
 pub returns-then-holds-clause-goal : goal.returns-then-holds-clause-goal
@@ -71,10 +71,10 @@ returns-then-holds-clause-goal c =
     let e = c.args.candidate.expr in
     let some_word : word ≢ 0 = let some = word_some (expr_of e) in omega arith in
     let serves = c.may_serve.ensures.0 c.if-not-may_serve.false in
-    let at = held_at b.key.room v word (hands c.holds.new.seat)
-    (subst (λ (found : Bool). FindsWhether b.key.room v word found (hands c.holds.new.seat)) c.if-holds.true
+    let at = held_at b.setup.capacity v word (hands c.holds.new.seat)
+    (subst (λ (found : Bool). FindsWhether b.setup.capacity v word found (hands c.holds.new.seat)) c.if-holds.true
     c.holds.ensures.answer) in
-    let enters = found_enters b.key.room rules_mean b.key.rules v word at.0 (hands c.holds.new.seat)
+    let enters = found_enters b.setup.capacity rules_mean b.setup.rules v word at.0 (hands c.holds.new.seat)
     c.holds.ensures.seat.over some_word at.1 in
     let entry : IsEntry q word = subst (λ (x : Query). IsEntry x word) c.requires.board.same_query enters in (
       record {
@@ -88,7 +88,7 @@ returns-then-holds-clause-goal c =
     )
 
 pub returns-else-holds-clause-looks : goal.returns-else-holds-clause-looks
-returns-else-holds-clause-looks c = only_looks_held c.args.board.now.key.room (hands c.args.seat.now)
+returns-else-holds-clause-looks c = only_looks_held c.args.board.now.setup.capacity (hands c.args.seat.now)
     c.args.candidate.word c.holds.result (hands c.holds.new.seat) c.holds.ensures.answer
 
 pub returns-else-holds-clause-goal : goal.returns-else-holds-clause-goal
@@ -98,7 +98,7 @@ returns-else-holds-clause-goal c =
     let v = hands c.args.seat.now in
     let e = c.args.candidate.expr in
     λ can. false≢true (sym c.if-holds.false ∙ c.holds.ensures.shown
-    (subst (λ (x : Query). ShowsEntry (meaning_of x) b.key.room v.looks c.args.candidate.word)
+    (subst (λ (x : Query). ShowsEntry (meaning_of x) b.setup.capacity v.looks c.args.candidate.word)
     (sym c.requires.board.same_query)
-    (member_shown q b.key.room v.looks e c.requires.implemented can.member c.args.candidate.word
+    (member_shown q b.setup.capacity v.looks e c.requires.implemented can.member c.args.candidate.word
     c.requires.candidate.number)))

@@ -34,7 +34,7 @@ pub returns-in_err-right-clause-chooses : goal.returns-in_err-right-clause-choos
 returns-in_err-right-clause-chooses g c =
     let q = c.args.query.now in
     rw c.from_residual-in_err-right.ensures
-    (chooses_none q c.args.board.now.key.room (hands c.args.seat.now) c.args.job.now.right
+    (chooses_none q c.args.board.now.setup.capacity (hands c.args.seat.now) c.args.job.now.right
     (IsGoalAsked q c.args.alt.left) (IsBestAsked q c.args.alt.left) c.in_ok-left.left (hands c.await_asked.new.seat)
     c.await_asked.new.job.right
     (hands c.await_asked-2.new.seat) c.await_asked-2.new.job.right c.in_ok-left.ensures.chooses
@@ -49,16 +49,16 @@ best_in_mode-best-requires-clause-below g c = record {
 }
 
 -- the choice that the alternative comes to
-in_mode : (q : Query) (room : ℕ) (v : Hands Rules) (before : Right) (native : Native) (alt : Alt)
+in_mode : (q : Query) (capacity : ℕ) (v : Hands Rules) (before : Right) (native : Native) (alt : Alt)
     → IsAltBy q native.expr native.wanted native.mode alt native.line
     → (left right : Choice) (u : Hands Rules) (middle : Right) (w : Hands Rules) (after : Right)
-    → FindsChoice q room v before (IsGoalAsked q alt.left) (IsBestAsked q alt.left) left u middle
-    → FindsChoice q room u middle (IsGoalAsked q alt.right) (IsBestAsked q alt.right) right w after
+    → FindsChoice q capacity v before (IsGoalAsked q alt.left) (IsBestAsked q alt.left) left u middle
+    → FindsChoice q capacity u middle (IsGoalAsked q alt.right) (IsBestAsked q alt.right) right w after
     → (choice : Choice) → IsChoice (IsBestIn q native.expr native.wanted native.mode) after choice
-    → FindsChoice q room v before (IsGoalIn q native.expr native.wanted native.mode)
+    → FindsChoice q capacity v before (IsGoalIn q native.expr native.wanted native.mode)
     (IsBestIn q native.expr native.wanted native.mode) choice w after
-in_mode q room v before native alt is left right u middle w after a b choice known =
-    finds_two q room v before (IsGoalAsked q alt.left) (IsGoalAsked q alt.right)
+in_mode q capacity v before native alt is left right u middle w after a b choice known =
+    finds_two q capacity v before (IsGoalAsked q alt.left) (IsGoalAsked q alt.right)
     (IsGoalIn q native.expr native.wanted native.mode) (IsBestAsked q alt.left) (IsBestAsked q alt.right)
     (IsBestIn q native.expr native.wanted native.mode)
     (goal_of_one q native.expr native.wanted native.mode alt native.line is) left right u middle w after a b choice
@@ -67,7 +67,8 @@ in_mode q room v before native alt is left right u middle w after a b choice kno
 pub returns-in-Known-Known-clause-chooses : goal.returns-in-Known-Known-clause-chooses
 returns-in-Known-Known-clause-chooses g c =
     let native = c.args.native in
-    in_mode c.args.query.now c.args.board.now.key.room (hands c.args.seat.now) c.args.job.now.right native c.args.alt
+    in_mode c.args.query.now c.args.board.now.setup.capacity (hands c.args.seat.now) c.args.job.now.right native
+    c.args.alt
     c.requires.alternative c.in_ok-left.left c.in_ok-right.right (hands c.await_asked.new.seat)
     c.await_asked.new.job.right
     (hands c.await_asked-2.new.seat) c.await_asked-2.new.job.right c.in_ok-left.ensures.chooses
@@ -77,7 +78,7 @@ returns-in-Known-Known-clause-chooses g c =
 
 pub returns-in-Known-Open-clause-chooses : goal.returns-in-Known-Open-clause-chooses
 returns-in-Known-Open-clause-chooses g c =
-    in_mode c.args.query.now c.args.board.now.key.room (hands c.args.seat.now) c.args.job.now.right c.args.native
+    in_mode c.args.query.now c.args.board.now.setup.capacity (hands c.args.seat.now) c.args.job.now.right c.args.native
     c.args.alt c.requires.alternative c.in_ok-left.left c.in_ok-right.right (hands c.await_asked.new.seat)
     c.await_asked.new.job.right
     (hands c.await_asked-2.new.seat) c.await_asked-2.new.job.right c.in_ok-left.ensures.chooses
@@ -91,7 +92,7 @@ returns-in-Open-default-clause-chooses g c =
     subst (IsChoice (IsBestAsked c.args.query.now c.args.alt.left) c.await_asked.new.job.right)
     c.in-Open-default.is-0 c.in_ok-left.ensures.chooses.is in
     let more = c.in_ok-right.ensures.chooses.awaited.proceeds.more_waits in
-    in_mode c.args.query.now c.args.board.now.key.room (hands c.args.seat.now) c.args.job.now.right c.args.native
+    in_mode c.args.query.now c.args.board.now.setup.capacity (hands c.args.seat.now) c.args.job.now.right c.args.native
     c.args.alt c.requires.alternative c.in_ok-left.left c.in_ok-right.right (hands c.await_asked.new.seat)
     c.await_asked.new.job.right
     (hands c.await_asked-2.new.seat) c.await_asked-2.new.job.right c.in_ok-left.ensures.chooses

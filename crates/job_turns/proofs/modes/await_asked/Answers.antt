@@ -52,9 +52,9 @@ returns-in-Some-clause-chooses g c =
     let wanted = c.in-Some.wanted in
     let group = c.group.result in
     subst (λ (asked : Option (Key × Request)).
-    Chooses q b.key.room (hands c.args.seat.now) c.args.job.now.right (IsGoalAsked q asked) (IsBestAsked q asked)
+    Chooses q b.setup.capacity (hands c.args.seat.now) c.args.job.now.right (IsGoalAsked q asked) (IsBestAsked q asked)
     c.await_choice.result (hands c.await_choice.new.seat) c.await_choice.new.job.right) (sym c.in-Some.is)
-    (chooses_others q b.key.room (hands c.args.seat.now) c.args.job.now.right (λ goal. goal ≡ Opt group wanted)
+    (chooses_others q b.setup.capacity (hands c.args.seat.now) c.args.job.now.right (λ goal. goal ≡ Opt group wanted)
     (IsGoalAsked q (Some (key, wanted))) (IsAnswerTo q (Opt group wanted)) (IsBestAsked q (Some (key, wanted)))
     (goal_of_key q key wanted group c.group.ensures.only) (best_of_key q key wanted group c.group.ensures.only)
     c.await_choice.result (hands c.await_choice.new.seat) c.await_choice.new.job.right
@@ -66,7 +66,8 @@ returns-in-None-clause-chooses g c =
     let b = c.args.board.now in
     let none : Option (Key × Request) = None in
     subst (λ (asked : Option (Key × Request)).
-    Chooses q b.key.room (hands c.args.seat.now) c.args.job.now.right (IsGoalAsked q asked) (IsBestAsked q asked)
+    Chooses q b.setup.capacity (hands c.args.seat.now) c.args.job.now.right (IsGoalAsked q asked) (IsBestAsked q asked)
     (Some (Known None)) (hands c.args.seat.now) c.args.job.now.right) (sym c.in-None.is)
-    (finds_none q b.key.room (hands c.args.seat.now) c.args.job.now.right (IsGoalAsked q none) (IsBestAsked q none)
+    (finds_none q b.setup.capacity (hands c.args.seat.now) c.args.job.now.right (IsGoalAsked q none)
+    (IsBestAsked q none)
     (λ child is. is.2) None tt)

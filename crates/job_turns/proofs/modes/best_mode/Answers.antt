@@ -34,7 +34,7 @@ modes-init g c =
     let wanted = c.args.wanted in
     record {
       at_work = c.requires.at_work;
-      found = finds_none q c.args.board.now.key.room (hands c.args.seat.now) c.args.job.now.right
+      found = finds_none q c.args.board.now.setup.capacity (hands c.args.seat.now) c.args.job.now.right
           (IsGoalBelow q e wanted 0) (IsBestBelow q e wanted 0) (goal_below_none q e wanted)
           None (best_below_none q e wanted (c.answers_are_best.ensures.none q));
     }
@@ -61,7 +61,7 @@ pub returns-in_err-other-clause-chooses : goal.returns-in_err-other-clause-choos
 returns-in_err-other-clause-chooses g c =
     let q = c.args.query.now in
     rw c.from_residual.ensures
-    (chooses_none q c.args.board.now.key.room (hands c.args.seat.now) c.args.job.now.right
+    (chooses_none q c.args.board.now.setup.capacity (hands c.args.seat.now) c.args.job.now.right
     (IsGoalBelow q c.args.expr c.args.wanted c.modes.from) (IsBestBelow q c.args.expr c.args.wanted c.modes.from)
     c.modes.choice (hands c.modes.seat) c.modes.job.right
     (hands c.await_mode.new.seat) c.await_mode.new.job.right c.modes.invariant.found c.in_err-other.ensures.chooses)
@@ -78,18 +78,18 @@ modes-preserved g c =
     let fits = c.goals_are_known.ensures.requests q (OptE e wanted) c.requires.goal.is_goal in
     let joins = best_below_more q e wanted from mode next.2 (c.answers_are_best.ensures.lesser q) c.args.props.now
     c.requires.props fits in
-    let both = finds_both q b.key.room (hands c.args.seat.now) c.args.job.now.right (IsGoalBelow q e wanted from)
+    let both = finds_both q b.setup.capacity (hands c.args.seat.now) c.args.job.now.right (IsGoalBelow q e wanted from)
     (IsGoalIn q e wanted mode) (IsBestBelow q e wanted from) (IsBestIn q e wanted mode)
     (IsBestBelow q e wanted (mode + 1)) joins
     c.modes.choice c.in_ok-other.other (hands c.modes.seat) c.modes.job.right (hands c.await_mode.new.seat)
     c.await_mode.new.job.right c.modes.invariant.found c.in_ok-other.ensures.chooses in
-    let more = finds_others q b.key.room (hands c.args.seat.now) c.args.job.now.right _
+    let more = finds_others q b.setup.capacity (hands c.args.seat.now) c.args.job.now.right _
     (IsGoalBelow q e wanted (mode + 1)) (IsBestBelow q e wanted (mode + 1)) (IsBestBelow q e wanted (mode + 1))
     (goal_below_more q e wanted from mode next.2) (λ best is. is)
     _ (hands c.await_mode.new.seat) c.await_mode.new.job.right both in
     record {
       at_work = c.await_mode.ensures.at_work;
-      found = subst (λ (choice : Choice). FindsChoice q b.key.room (hands c.args.seat.now) c.args.job.now.right
+      found = subst (λ (choice : Choice). FindsChoice q b.setup.capacity (hands c.args.seat.now) c.args.job.now.right
           (IsGoalBelow q e wanted (mode + 1)) (IsBestBelow q e wanted (mode + 1)) choice (hands c.await_mode.new.seat)
           c.await_mode.new.job.right)
           (sym c.or-choice.ensures) more;
@@ -102,7 +102,8 @@ returns-clause-chooses g c =
     let wanted = c.args.wanted in
     let from = c.modes.from in
     let all = all_below q e wanted from c.in_default.ensures in
-    finds_others q c.args.board.now.key.room (hands c.args.seat.now) c.args.job.now.right (IsGoalBelow q e wanted from)
+    finds_others q c.args.board.now.setup.capacity (hands c.args.seat.now) c.args.job.now.right
+    (IsGoalBelow q e wanted from)
     (IsChildGoal (IsMember q) q (OptE e wanted)) (IsBestBelow q e wanted from) (IsAnswerTo q (OptE e wanted))
     (goal_below_all q e wanted from all) (best_below_all q e wanted from all (c.answers_are_best.ensures.covered q))
     c.modes.choice (hands c.modes.seat) c.modes.job.right c.modes.invariant.found

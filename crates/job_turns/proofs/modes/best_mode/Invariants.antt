@@ -9,7 +9,7 @@ use Rattle.job_turns.proofs.modes.best_mode.Given as goal
 abbrev pub invariant-modes : goal.invariant-modes
 invariant-modes g l = record {
   at_work : IsAtWork l.query l.board l.seat l.job (g.H.Hints.capacity l.hints);
-  found : FindsChoice l.query l.board.key.room (hands l.initial.seat) l.initial.job.right
+  found : FindsChoice l.query l.board.setup.capacity (hands l.initial.seat) l.initial.job.right
       (IsGoalBelow l.query l.expr l.wanted l.from) (IsBestBelow l.query l.expr l.wanted l.from) l.choice (hands l.seat)
       l.job.right;
 }

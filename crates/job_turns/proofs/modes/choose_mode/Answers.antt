@@ -7,7 +7,7 @@ use Rattle.job_turns.proofs.modes.choose_mode.Goals as goal
 pub returns-clause-works : goal.returns-clause-works
 returns-clause-works g c =
     let q = c.args.query.now in
-    works_chosen q c.args.board.now.key.room c.requires.at_work.has_job.board.small
+    works_chosen q c.args.board.now.setup.capacity c.requires.at_work.has_job.board.small
     (c.words_are_known.ensures.children q) (c.words_are_known.ensures.asked q) (OptE c.args.expr c.args.wanted)
     (λ e asks. asks)
     (hands c.args.seat.now) c.args.job.now.right c.requires.goal c.best_mode-found.result

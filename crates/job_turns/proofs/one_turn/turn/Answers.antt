@@ -28,9 +28,10 @@ pub end-requires-clause-ready : goal.end-requires-clause-ready
 end-requires-clause-ready g c κs within =
     let q = c.args.query.now in
     let b = c.args.board.now in
-    subst (λ (p : Query). IsReady (meaning_of p) b.key.room (hands c.work-progress.new.seat).looks
+    subst (λ (p : Query). IsReady (meaning_of p) b.setup.capacity (hands c.work-progress.new.seat).looks
     c.work-progress.new.job.right c.work-progress.result) (sym c.requires.board)
-    (ready_after (meaning_of q) b.key.room (Adds q c.goal_of-goal.result) (hands c.args.seat.now) c.of-job.result.right
+    (ready_after (meaning_of q) b.setup.capacity (Adds q c.goal_of-goal.result) (hands c.args.seat.now)
+    c.of-job.result.right
     c.work-progress.result (hands c.work-progress.new.seat) c.work-progress.new.job.right
     c.work-progress.ensures.works)
 
@@ -38,11 +39,11 @@ pub returns-clause-turns : goal.returns-clause-turns
 returns-clause-turns g c =
     let q = c.args.query.now in
     let b = c.args.board.now in
-    subst (λ (r : Right). TurnsGoal q b.key.room (hands c.args.seat.now) r c.args.worker c.end.result
+    subst (λ (r : Right). TurnsGoal q b.setup.capacity (hands c.args.seat.now) r c.args.worker c.end.result
     (hands c.end.new.seat)) c.of-job.ensures (record {
       goal = c.goal_of-goal.result;
       names = c.goal_of-goal.ensures;
-      turns = turns_end (meaning_of q) b.key.room (Adds q c.goal_of-goal.result) (hands c.args.seat.now)
+      turns = turns_end (meaning_of q) b.setup.capacity (Adds q c.goal_of-goal.result) (hands c.args.seat.now)
           c.of-job.result.right c.args.worker c.work-progress.result (hands c.work-progress.new.seat)
           c.work-progress.new.job.right c.end.result
           (hands c.end.new.seat) c.work-progress.ensures.works c.end.ensures.ends;

@@ -19,7 +19,7 @@ await_if-requires-2-clause-child g c = λ child is.
 
 pub returns-clause-awaits : goal.returns-clause-awaits
 returns-clause-awaits g c =
-    awaits_then c.args.query.now c.args.board.now.key.room (hands c.args.seat.now) c.args.job.now.right
+    awaits_then c.args.query.now c.args.board.now.setup.capacity (hands c.args.seat.now) c.args.job.now.right
     (λ (child : GoalKind). c.args.children.0 ≡ Some child) (λ (child : GoalKind). c.args.children.1 ≡ Some child)
     (hands c.await_if.new.seat) c.await_if.new.job.right c.await_if-2.result (hands c.await_if-2.new.seat)
     c.await_if-2.new.job.right c.if-not-await_if.ensures.awaits c.await_if-2.ensures.awaits

@@ -20,9 +20,9 @@ await_child-requires-clause-child g c κs within =
 pub returns-clause-awaits : goal.returns-clause-awaits
 returns-clause-awaits g c =
     let b = c.args.board.now in
-    subst (λ (q : Query). Awaits (meaning_of q) b.key.room (hands c.args.seat.now) c.args.job.now.right
+    subst (λ (q : Query). Awaits (meaning_of q) b.setup.capacity (hands c.args.seat.now) c.args.job.now.right
     (goal_word c.args._child) c.await_child.result (hands c.await_child.new.seat) c.await_child.new.self.right)
     c.requires.at_work.has_job.board.same_query
-    (subst (λ (word : ℕ). Awaits (meaning_of b.key.rules.query.now) b.key.room (hands c.args.seat.now)
+    (subst (λ (word : ℕ). Awaits (meaning_of b.setup.rules.query.now) b.setup.capacity (hands c.args.seat.now)
     c.args.job.now.right word c.await_child.result (hands c.await_child.new.seat) c.await_child.new.self.right)
     (sym c.requires.word) c.await_child.ensures.awaits)

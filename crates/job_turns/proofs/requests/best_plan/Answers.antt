@@ -26,7 +26,7 @@ best_member-requires-clause-implemented g c =
     let q = c.args.query.now in
     record {
       is_goal = c.requires.implemented.is_goal;
-      finished = still_finished (meaning_of q) c.args.board.now.key.room (hands c.args.seat.now).looks
+      finished = still_finished (meaning_of q) c.args.board.now.setup.capacity (hands c.args.seat.now).looks
           (hands c.best_enforcer.new.seat).looks
           (later_proceeded (IsChildWord q c.args.job.now.right.goal) (hands c.args.seat.now) c.args.job.now.right
           (hands c.best_enforcer.new.seat) c.best_enforcer.new.job.right
@@ -38,7 +38,7 @@ pub returns-in_err-member-clause-chooses : goal.returns-in_err-member-clause-cho
 returns-in_err-member-clause-chooses g c =
     let q = c.args.query.now in
     rw c.from_residual-in_err-member.ensures
-    (chooses_none q c.args.board.now.key.room (hands c.args.seat.now) c.args.job.now.right
+    (chooses_none q c.args.board.now.setup.capacity (hands c.args.seat.now) c.args.job.now.right
     (IsEnforcerGoal q c.args.group c.args.wanted)
     (IsBest q c.args.group c.args.wanted (first_enforcers c.args.wanted)) c.in_ok-enforced.enforced
     (hands c.best_enforcer.new.seat) c.best_enforcer.new.job.right (hands c.best_member.new.seat)
@@ -55,16 +55,16 @@ returns-clause-chooses g c =
     let w = hands c.best_member.new.seat in
     let after = c.best_member.new.job.right in
     let fits = c.goals_are_known.ensures.requests q (Opt group wanted) c.requires.goal.is_goal in
-    let both = finds_both q b.key.room v start (IsEnforcerGoal q group wanted) (IsMemberGoal q group wanted)
+    let both = finds_both q b.setup.capacity v start (IsEnforcerGoal q group wanted) (IsMemberGoal q group wanted)
     (IsBest q group wanted (first_enforcers wanted)) (IsBestOfMembers q group wanted)
     (IsBest q group wanted all_nodes)
     (best_of_all q group wanted (c.answers_are_best.ensures.lesser q) (c.answers_are_best.ensures.covered q)
     c.args.props.now c.requires.props fits) c.in_ok-enforced.enforced c.in_ok-member.member
     (hands c.best_enforcer.new.seat) c.best_enforcer.new.job.right w after c.in_ok-enforced.ensures.chooses
     c.in_ok-member.ensures.chooses in
-    subst (λ (choice : Choice). FindsChoice q b.key.room v start (IsPlanGoal q group wanted)
+    subst (λ (choice : Choice). FindsChoice q b.setup.capacity v start (IsPlanGoal q group wanted)
     (IsBest q group wanted all_nodes) choice w after) (sym c.or.ensures)
-    (finds_others q b.key.room v start _ (IsPlanGoal q group wanted) (IsBest q group wanted all_nodes)
+    (finds_others q b.setup.capacity v start _ (IsPlanGoal q group wanted) (IsBest q group wanted all_nodes)
     (IsBest q group wanted all_nodes)
     (λ child is. ⊎_elim (λ (member : IsMemberGoal q group wanted child). inr member)
     (λ (enforced : IsEnforcerGoal q group wanted child). inl enforced) is) (λ best is. is) _ w after both)

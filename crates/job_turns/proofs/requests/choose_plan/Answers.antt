@@ -39,12 +39,12 @@ returns-in-Complete-clause-works g c =
     let middle = c.await_goal.new.job.right in
     let w = hands c.best_plan-found.new.seat in
     let after = c.best_plan-found.new.job.right in
-    let first = has_one q b.key.room v start (Imp group) (progress.Complete c.in-Complete.field-0) u middle
+    let first = has_one q b.setup.capacity v start (Imp group) (progress.Complete c.in-Complete.field-0) u middle
     (λ full. let bad : ⊥ = cc in bad) c.in-Complete.ensures.awaits in
-    works_chosen q b.key.room c.requires.at_work.has_job.board.small (c.words_are_known.ensures.children q)
+    works_chosen q b.setup.capacity c.requires.at_work.has_job.board.small (c.words_are_known.ensures.children q)
     (c.words_are_known.ensures.asked q) (Opt group wanted) (λ e asks. asks) v start c.requires.goal
     c.best_plan-found.result w after c.progress_of.result
-    (chooses_after q b.key.room v start (λ goal. goal ≡ Imp group) (IsPlanGoal q group wanted)
+    (chooses_after q b.setup.capacity v start (λ goal. goal ≡ Imp group) (IsPlanGoal q group wanted)
     (IsBest q group wanted all_nodes) u middle c.best_plan-found.result w after first
     c.best_plan-found.ensures.chooses) c.progress_of.ensures
 
@@ -57,29 +57,32 @@ pub returns-then-put_enforcers-clause-works : goal.returns-then-put_enforcers-cl
 returns-then-put_enforcers-clause-works g c =
     let q = c.args.query.now in
     let first = c.in-Waiting.ensures.awaits in
-    works_waiting q c.args.board.now.key.room c.requires.at_work.has_job.board.small
+    works_waiting q c.args.board.now.setup.capacity c.requires.at_work.has_job.board.small
     (c.words_are_known.ensures.children q) (c.words_are_known.ensures.asked q) (Opt c.args.group c.args.wanted)
     (λ e asks. asks) (hands c.args.seat.now) c.args.job.now.right c.requires.goal
     (hands c.put_enforcers.new.seat) c.await_goal.new.job.right
-    (children_put q c.args.board.now.key.room (hands c.args.seat.now) c.args.job.now.right (hands c.await_goal.new.seat)
+    (children_put q c.args.board.now.setup.capacity (hands c.args.seat.now) c.args.job.now.right
+    (hands c.await_goal.new.seat)
     c.await_goal.new.job.right (hands c.put_enforcers.new.seat) first.0 c.if-put_enforcers.ensures.puts) first.1
 
 pub returns-else-put_enforcers-clause-works : goal.returns-else-put_enforcers-clause-works
 returns-else-put_enforcers-clause-works g c =
     let q = c.args.query.now in
     let first = c.in-Waiting.ensures.awaits in
-    works_full q c.args.board.now.key.room c.requires.at_work.has_job.board.small (c.words_are_known.ensures.children q)
+    works_full q c.args.board.now.setup.capacity c.requires.at_work.has_job.board.small
+    (c.words_are_known.ensures.children q)
     (c.words_are_known.ensures.asked q) (Opt c.args.group c.args.wanted) (λ e asks. asks) (hands c.args.seat.now)
     c.args.job.now.right c.requires.goal
     (hands c.put_enforcers.new.seat) c.await_goal.new.job.right
-    (children_full q c.args.board.now.key.room (hands c.args.seat.now) c.args.job.now.right
+    (children_full q c.args.board.now.setup.capacity (hands c.args.seat.now) c.args.job.now.right
     (hands c.await_goal.new.seat) c.await_goal.new.job.right (hands c.put_enforcers.new.seat) first.0
     c.if-put_enforcers.ensures.puts)
 
 pub returns-in-Full-clause-works : goal.returns-in-Full-clause-works
 returns-in-Full-clause-works g c =
     let q = c.args.query.now in
-    works_full q c.args.board.now.key.room c.requires.at_work.has_job.board.small (c.words_are_known.ensures.children q)
+    works_full q c.args.board.now.setup.capacity c.requires.at_work.has_job.board.small
+    (c.words_are_known.ensures.children q)
     (c.words_are_known.ensures.asked q) (Opt c.args.group c.args.wanted) (λ e asks. asks) (hands c.args.seat.now)
     c.args.job.now.right c.requires.goal
     (hands c.await_goal.new.seat) c.await_goal.new.job.right c.in-Full.ensures.awaits

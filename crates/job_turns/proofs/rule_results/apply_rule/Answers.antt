@@ -25,7 +25,8 @@ returns-then-put_results-clause-works g c =
     let b = c.args.board.now in
     let right = c.args.job.now.right in
     let laws = c.words_are_known.ensures in
-    rule_works q (laws.children q) (laws.asked q) c.requires.at_work.has_job.board.small c.args.e c.args.rule b.key.room
+    rule_works q (laws.children q) (laws.asked q) c.requires.at_work.has_job.board.small c.args.e c.args.rule
+    b.setup.capacity
     (hands c.args.seat.now) (hands c.args.seat.now) (hands c.put_results.new.seat) right right
     (IsBroughtWith q c.args.rule c.args.e None)
     c.progress.result c.requires.goal (proceeds_none (Adds q (Xf c.args.e c.args.rule)) (hands c.args.seat.now) right)
@@ -41,6 +42,6 @@ returns-else-put_results-clause-works g c =
     let q = c.args.query.now in
     let laws = c.words_are_known.ensures in
     results_run_out q (laws.children q) (laws.asked q) c.requires.at_work.has_job.board.small c.args.e c.args.rule
-    c.args.board.now.key.room (hands c.args.seat.now) c.args.job.now.right (hands c.put_results.new.seat)
+    c.args.board.now.setup.capacity (hands c.args.seat.now) c.args.job.now.right (hands c.put_results.new.seat)
     c.args.job.now.right c.requires.goal
     c.if-put_results.ensures.puts

@@ -24,7 +24,7 @@ await_goal-requires-clause-child g c = (
 pub returns-in-Full-clause-works : goal.returns-in-Full-clause-works
 returns-in-Full-clause-works g c =
     runs_out c.args.query.now (c.words_are_known.ensures.children c.args.query.now)
-    c.requires.at_work.has_job.board.small (Xf c.args.e c.args.rule) c.args.board.now.key.room
+    c.requires.at_work.has_job.board.small (Xf c.args.e c.args.rule) c.args.board.now.setup.capacity
     (hands c.args.seat.now) c.args.job.now.right (hands c.await_goal.new.seat) c.await_goal.new.job.right
     c.requires.goal c.in-Full.ensures.awaits
 
@@ -78,7 +78,8 @@ returns-then-put_with_members-clause-works g c =
     let laws = c.words_are_known.ensures in
     let known = c.results_are_known.ensures in
     let awaits = c.in-Complete.ensures.awaits in
-    rule_works q (laws.children q) (laws.asked q) c.requires.at_work.has_job.board.small c.args.e c.args.rule b.key.room
+    rule_works q (laws.children q) (laws.asked q) c.requires.at_work.has_job.board.small c.args.e c.args.rule
+    b.setup.capacity
     (hands c.args.seat.now) (hands c.await_goal.new.seat) (hands c.put_with_members.new.seat) right
     c.await_goal.new.job.right
     (IsBroughtFrom q c.args.rule c.args.e c.args.left) c.progress.result c.requires.goal
@@ -86,8 +87,8 @@ returns-then-put_with_members-clause-works g c =
     (hands c.args.seat.now) right (hands c.await_goal.new.seat) c.await_goal.new.job.right c.requires.goal awaits.0)
     c.if-put_with_members.ensures.puts
     (λ none child (group, joins, left, is). subst
-    (λ k. ShowsFinished (meaning_of q) b.key.room (hands c.await_goal.new.seat).looks (goal_word k)) (sym is)
-    (subst (λ k. ShowsFinished (meaning_of q) b.key.room (hands c.await_goal.new.seat).looks (goal_word (Exp k)))
+    (λ k. ShowsFinished (meaning_of q) b.setup.capacity (hands c.await_goal.new.seat).looks (goal_word k)) (sym is)
+    (subst (λ k. ShowsFinished (meaning_of q) b.setup.capacity (hands c.await_goal.new.seat).looks (goal_word (Exp k)))
     (left_one _ c.args.left group c.requires.left.1 left) awaits.2.finished))
     (bound_wanted q c.args.e c.args.rule c.args.left c.requires.left (known.binds q c.args.rule c.args.e)
     (known.left q c.args.rule c.args.e) (known.bound q c.args.rule c.args.e)) c.progress.ensures
@@ -102,10 +103,10 @@ returns-else-put_with_members-clause-works g c =
     let awaits = c.in-Complete.ensures.awaits in
     let named : NamesGoal q middle.goal (Xf c.args.e c.args.rule) =
     subst (λ k. NamesGoal q k (Xf c.args.e c.args.rule)) (sym awaits.0.same_goal) c.requires.goal in
-    runs_out_then (Adds q (Xf c.args.e c.args.rule)) b.key.room (hands c.args.seat.now) right
+    runs_out_then (Adds q (Xf c.args.e c.args.rule)) b.setup.capacity (hands c.args.seat.now) right
     (hands c.await_goal.new.seat) middle (hands c.put_with_members.new.seat) middle
     (goes_on q (laws.children q) c.requires.at_work.has_job.board.small (Xf c.args.e c.args.rule)
     (hands c.args.seat.now) right (hands c.await_goal.new.seat) middle c.requires.goal awaits.0)
     (results_run_out q (laws.children q) (laws.asked q) c.requires.at_work.has_job.board.small c.args.e c.args.rule
-    b.key.room (hands c.await_goal.new.seat) middle (hands c.put_with_members.new.seat) middle named
+    b.setup.capacity (hands c.await_goal.new.seat) middle (hands c.put_with_members.new.seat) middle named
     c.if-put_with_members.ensures.puts)

@@ -32,7 +32,7 @@ put_origin-requires-clause-asked c = λ key is.
 pub returns-then-not-put_origin-clause-puts : goal.returns-then-not-put_origin-clause-puts
 returns-then-not-put_origin-clause-puts c =
     let q = c.args.query.now in
-    puts_then q c.args.board.now.key.room c.args.job.now.right (hands c.args.seat.now)
+    puts_then q c.args.board.now.setup.capacity c.args.job.now.right (hands c.args.seat.now)
     (λ (other : ExprParts). other ≡ c.args.e) (IsOriginOf q c.groups_below-left.result.0)
     (hands c.put_member.new.seat) false (hands c.put_origin.new.seat)
     c.if-not-put_member.ensures.puts c.if-not-put_origin.ensures.puts
@@ -51,17 +51,17 @@ put_origin-requires-2-clause-asked c = λ key is.
 pub returns-clause-puts : goal.returns-clause-puts
 returns-clause-puts c =
     let q = c.args.query.now in
-    let room = c.args.board.now.key.room in
+    let capacity = c.args.board.now.setup.capacity in
     let right = c.args.job.now.right in
     let v = hands c.args.seat.now in
     let itself : ExprParts → Type 0 = λ other. other ≡ c.args.e in
     let first = IsOriginOf q c.groups_below-left.result.0 in
     let second = IsOriginOf q c.groups_below-left.result.1 in
-    puts_others q room right v (λ other. (itself other ⊎ first other) ⊎ second other) (IsBroughtBy q c.args.e)
+    puts_others q capacity right v (λ other. (itself other ⊎ first other) ⊎ second other) (IsBroughtBy q c.args.e)
     (λ other is. brought q c.args.e c.groups_below-left.result
     (λ group child. (c.groups_below-left.ensures group).1 child) other is) c.put_origin-2.result
     (hands c.put_origin-2.new.seat)
-    (puts_then q room right v (λ other. itself other ⊎ first other) second (hands c.put_origin.new.seat)
+    (puts_then q capacity right v (λ other. itself other ⊎ first other) second (hands c.put_origin.new.seat)
     c.put_origin-2.result (hands c.put_origin-2.new.seat)
-    (put_both q room right v itself first (hands c.put_member.new.seat) (hands c.put_origin.new.seat)
+    (put_both q capacity right v itself first (hands c.put_member.new.seat) (hands c.put_origin.new.seat)
     c.if-not-put_member.ensures.puts c.if-not-put_origin.ensures.puts) c.put_origin-2.ensures.puts)

@@ -20,7 +20,7 @@ returns-in-Full-clause-has_job c =
 
 pub returns-in-Full-clause-puts : goal.returns-in-Full-clause-puts
 returns-in-Full-clause-puts c =
-    puts_full c.args.query.now c.args.board.now.key.room c.args.job.now.right (hands c.args.seat.now) c.args.e
+    puts_full c.args.query.now c.args.board.now.setup.capacity c.args.job.now.right (hands c.args.seat.now) c.args.e
     c.make.result.0 (hands c.insert.new.seat) c.requires.asked c.make.ensures.number c.in-Full.ensures.answer
 
 pub returns-in_default-clause-has_job : goal.returns-in_default-clause-has_job
@@ -30,6 +30,6 @@ returns-in_default-clause-has_job c =
 
 pub returns-in_default-clause-puts : goal.returns-in_default-clause-puts
 returns-in_default-clause-puts c =
-    put_one c.args.query.now c.args.board.now.key.room c.args.job.now.right (hands c.args.seat.now) c.args.e
+    put_one c.args.query.now c.args.board.now.setup.capacity c.args.job.now.right (hands c.args.seat.now) c.args.e
     c.make.result.0 c.insert.result (hands c.insert.new.seat) c.requires.asked c.make.ensures.number
     c.in_default.not-Full c.insert.ensures.answer

@@ -17,12 +17,12 @@ put_member-requires-clause-asked c = subst (IsAskedOf c.args.query.now c.args.jo
 
 pub returns-in-Some-clause-puts : goal.returns-in-Some-clause-puts
 returns-in-Some-clause-puts c =
-    puts_others c.args.query.now c.args.board.now.key.room c.args.job.now.right (hands c.args.seat.now)
+    puts_others c.args.query.now c.args.board.now.setup.capacity c.args.job.now.right (hands c.args.seat.now)
     (λ (e : ExprParts). e ≡ c.origin_of_group.result) (IsOriginOf c.args.query.now c.args.group)
     (λ e is. origin_is c.args.query.now c.args.group c.in-Some.key c.in-Some.is e is ∙ sym c.origin_of_group.ensures)
     c.put_member.result (hands c.put_member.new.seat) c.put_member.ensures.puts
 
 pub returns-in-None-clause-puts : goal.returns-in-None-clause-puts
 returns-in-None-clause-puts c =
-    put_none c.args.query.now c.args.board.now.key.room c.args.job.now.right (hands c.args.seat.now)
+    put_none c.args.query.now c.args.board.now.setup.capacity c.args.job.now.right (hands c.args.seat.now)
     (IsOriginOf c.args.query.now c.args.group) (no_origin c.args.query.now c.args.group c.in-None.is)

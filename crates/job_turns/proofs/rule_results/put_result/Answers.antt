@@ -26,7 +26,8 @@ put_brought-requires-clause-asked c = λ other brought.
 pub returns-in-Some-clause-puts : goal.returns-in-Some-clause-puts
 returns-in-Some-clause-puts c =
     let q = c.args.query.now in
-    puts_others q c.args.board.now.key.room c.args.job.now.right (hands c.args.seat.now) (IsBroughtBy q c.in-Some.other)
+    puts_others q c.args.board.now.setup.capacity c.args.job.now.right (hands c.args.seat.now)
+    (IsBroughtBy q c.in-Some.other)
     (IsBroughtAt q c.args.rule c.args.e c.args.bound c.args.n)
     (λ x (found, has, brought). subst (λ k. IsBroughtBy q k x)
     (c.results_are_candidates.ensures.one q c.args.rule c.args.e c.args.bound c.args.n found c.in-Some.other has
@@ -35,6 +36,6 @@ returns-in-Some-clause-puts c =
 
 pub returns-in-None-clause-puts : goal.returns-in-None-clause-puts
 returns-in-None-clause-puts c =
-    put_none c.args.query.now c.args.board.now.key.room c.args.job.now.right (hands c.args.seat.now)
+    put_none c.args.query.now c.args.board.now.setup.capacity c.args.job.now.right (hands c.args.seat.now)
     (IsBroughtAt c.args.query.now c.args.rule c.args.e c.args.bound c.args.n)
     (λ x (found, has, brought). c.in-None.ensures found has)

@@ -8,6 +8,6 @@ use Rattle.job_turns.proofs.rule_results.put_results.Given as goal
 abbrev pub invariant-loop-n : goal.invariant-loop-n
 invariant-loop-n l = record {
   has_job : HasJob l.query l.board l.seat l.job;
-  put : HasPut l.query l.board.key.room (hands l.initial.seat) l.job.right
+  put : HasPut l.query l.board.setup.capacity (hands l.initial.seat) l.job.right
       (IsBroughtBelow l.query l.rule l.e l.bound l.n) (hands l.seat);
 }

@@ -29,15 +29,15 @@ next_entry-requires-clause-shown c κs = λ word is.
     let over = subst (λ (p : Query). IsEntryOf (meaning_of p) (IsLogicalWord q c.args.group) word) same is in
     let (bound, is_in, number) = entry_member q c.args.group (c.entries_are_known.ensures.members q)
     (c.members_are_candidates.ensures q) word over in
-    subst (λ (p : Query). ShowsEntry (meaning_of p) b.key.room (hands c.loop-word.seat).looks word) (sym same)
-    (subst (ShowsEntry (meaning_of q) b.key.room (hands c.loop-word.seat).looks) number
-    (put_shown_from q b.key.room c.args.job.now.right (hands c.args.seat.now) _ (hands c.loop-word.seat)
+    subst (λ (p : Query). ShowsEntry (meaning_of p) b.setup.capacity (hands c.loop-word.seat).looks word) (sym same)
+    (subst (ShowsEntry (meaning_of q) b.setup.capacity (hands c.loop-word.seat).looks) number
+    (put_shown_from q b.setup.capacity c.args.job.now.right (hands c.args.seat.now) _ (hands c.loop-word.seat)
     c.loop-word.invariant.put (word_of bound) (c.requires.shown bound is_in)))
 
 pub loop-word-init : goal.loop-word-init
 loop-word-init c = record {
   has_job = c.requires.has_job;
-  put = put_none c.args.query.now c.args.board.now.key.room c.args.job.now.right (hands c.args.seat.now)
+  put = put_none c.args.query.now c.args.board.now.setup.capacity c.args.job.now.right (hands c.args.seat.now)
       (IsBroughtUpTo c.args.query.now c.args.rule c.args.e c.args.group None) (λ x is. is.2);
 }
 
@@ -84,17 +84,18 @@ put_results-requires-clause-asked c = λ other brought.
 pub returns-then-not-put_results-clause-puts : goal.returns-then-not-put_results-clause-puts
 returns-then-not-put_results-clause-puts c =
     let q = c.args.query.now in
-    let room = c.args.board.now.key.room in
+    let capacity = c.args.board.now.setup.capacity in
     let right = c.args.job.now.right in
     let up_to = IsBroughtUpTo q c.args.rule c.args.e c.args.group c.loop-word.before in
-    puts_run_out q room right (hands c.args.seat.now) up_to (hands c.next_entry.new.seat) (hands c.put_results.new.seat)
-    (put_looked q room right (hands c.args.seat.now) up_to (hands c.loop-word.seat) (hands c.next_entry.new.seat)
+    puts_run_out q capacity right (hands c.args.seat.now) up_to (hands c.next_entry.new.seat)
+    (hands c.put_results.new.seat)
+    (put_looked q capacity right (hands c.args.seat.now) up_to (hands c.loop-word.seat) (hands c.next_entry.new.seat)
     c.in-Some.ensures.looks c.loop-word.invariant.put) c.if-not-put_results.ensures.puts
 
 pub loop-word-preserved : goal.loop-word-preserved
 loop-word-preserved c =
     let q = c.args.query.now in
-    let room = c.args.board.now.key.room in
+    let capacity = c.args.board.now.setup.capacity in
     let right = c.args.job.now.right in
     let up_to = IsBroughtUpTo q c.args.rule c.args.e c.args.group c.loop-word.before in
     let with = IsBroughtWith q c.args.rule c.args.e (Some c.known_parts-bound.result) in
@@ -102,7 +103,7 @@ loop-word-preserved c =
     c.loop-word.before c.in-Some.word) c.requires.has_job.board.same_query c.in-Some.ensures.next in
     record {
       has_job = c.put_results.ensures.has_job;
-      put = put_others q room right (hands c.args.seat.now) (λ x. up_to x ⊎ with x)
+      put = put_others q capacity right (hands c.args.seat.now) (λ x. up_to x ⊎ with x)
           (IsBroughtUpTo q c.args.rule c.args.e c.args.group (Some c.in-Some.word))
           (bound_more q c.args.group (c.entries_are_known.ensures.members q) (c.members_are_candidates.ensures q)
           c.args.rule c.args.e c.loop-word.before c.in-Some.word next c.known_parts-bound.result
@@ -112,9 +113,10 @@ loop-word-preserved c =
             number = number;
           })))
           (hands c.put_results.new.seat)
-          (put_both q room right (hands c.args.seat.now) up_to with (hands c.next_entry.new.seat)
+          (put_both q capacity right (hands c.args.seat.now) up_to with (hands c.next_entry.new.seat)
           (hands c.put_results.new.seat)
-          (put_looked q room right (hands c.args.seat.now) up_to (hands c.loop-word.seat) (hands c.next_entry.new.seat)
+          (put_looked q capacity right (hands c.args.seat.now) up_to (hands c.loop-word.seat)
+          (hands c.next_entry.new.seat)
           c.in-Some.ensures.looks c.loop-word.invariant.put) c.if-not-put_results.ensures.puts);
     }
 
@@ -126,13 +128,13 @@ returns-clause-has_job c =
 pub returns-clause-puts : goal.returns-clause-puts
 returns-clause-puts c =
     let q = c.args.query.now in
-    let room = c.args.board.now.key.room in
+    let capacity = c.args.board.now.setup.capacity in
     let right = c.args.job.now.right in
     let up_to = IsBroughtUpTo q c.args.rule c.args.e c.args.group c.loop-word.before in
     let none = subst (λ (p : Query). IsNextOf (IsEntryOf (meaning_of p) (IsLogicalWord q c.args.group))
     c.loop-word.before None) c.requires.has_job.board.same_query c.in_default.ensures.next in
-    put_others q room right (hands c.args.seat.now) up_to (IsBroughtFrom q c.args.rule c.args.e c.args.group)
+    put_others q capacity right (hands c.args.seat.now) up_to (IsBroughtFrom q c.args.rule c.args.e c.args.group)
     (bound_all q c.args.group (c.entries_are_known.ensures.members q) (c.members_are_candidates.ensures q) c.args.rule
     c.args.e c.loop-word.before none)
-    (hands c.next_entry.new.seat) (put_looked q room right (hands c.args.seat.now) up_to (hands c.loop-word.seat)
+    (hands c.next_entry.new.seat) (put_looked q capacity right (hands c.args.seat.now) up_to (hands c.loop-word.seat)
     (hands c.next_entry.new.seat) c.in_default.ensures.looks c.loop-word.invariant.put)

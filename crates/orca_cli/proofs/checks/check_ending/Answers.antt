@@ -14,7 +14,8 @@ returns-in-Ok c =
     let good = subst (λ (text : List ℕ). IsOutcome q text (Ok c.in-Ok.cost)) c.as_slice.ensures.value
     c.in-Ok.ensures.outcome in
     IfOk-weaker c.valid_plan.result _ _
-    (λ ending ends. as_ended (IsCheckEnd q plan) ending _ _ ends (priced refl c.in-Ok.cost good refl)) c.valid_plan.ensures
+    (λ ending ends. as_ended (IsCheckEnd q plan) ending _ _ ends (priced refl c.in-Ok.cost good refl))
+    c.valid_plan.ensures
 
 pub returns-in_ok-cause-in-Err : goal.returns-in_ok-cause-in-Err
 returns-in_ok-cause-in-Err c =

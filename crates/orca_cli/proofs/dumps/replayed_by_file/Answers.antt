@@ -10,7 +10,8 @@ use Rattle.orca_cli.proofs.dumps.replayed_by_file.Goals as goal
 pub returns-in-Ok-Some-clause-stops : goal.returns-in-Ok-Some-clause-stops
 returns-in-Ok-Some-clause-stops g c =
     let file = g.S.Shelf.held c.args.shelf.now c.args.name.now in
-    let read : AreHeld file 1179648 c.in-Ok-Some.bytes.items = rw c.in-Ok-Some.field-0-is at c.in-Ok-Some.ensures.read in
+    let read : AreHeld file 1179648 c.in-Ok-Some.bytes.items = rw c.in-Ok-Some.field-0-is at c.in-Ok-Some.ensures.read
+    in
     let are : AreHeld file 1179648 c.deref.result.now = subst (AreHeld file 1179648) (sym c.deref.ensures.value) read in
     let shelf = reads (g.S.Shelf.held c.args.shelf.now) (g.S.Shelf.faults c.args.shelf.now)
     (g.S.Shelf.faults c.read_file.new.shelf) in

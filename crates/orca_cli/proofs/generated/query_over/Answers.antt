@@ -26,7 +26,8 @@ unreachable-requires c =
       bound = record { select = written.select; reading = written.read; bound = bound };
       within = record {
         few_lists = law.few_lists input.number input.tables input.shape c.args.options written.select read query bound;
-        few_orders = law.few_orders input.number input.tables input.shape c.args.options written.select read query bound;
+        few_orders = law.few_orders input.number input.tables input.shape c.args.options written.select read query
+            bound;
       };
     }) in
     let one : OneReading = record {

@@ -26,7 +26,8 @@ returns c =
       memo_line = c.memos_are_known.ensures.line;
       trace_line = c.traces_are_known.ensures.line;
     } in
-    let least = λ (q : Query) (s t : Tree) (within : IsWithinLimits q) (one : IsLeastPlan q s) (other : IsLeastPlan q t).
+    let least = λ (q : Query) (s t : Tree) (within : IsWithinLimits q) (one : IsLeastPlan q s)
+    (other : IsLeastPlan q t).
     c.least_is_one.ensures q within.few_lists within.few_orders (root_of q) (root_request q) t s other one in
     record {
       outcome = one_outcome_of answer sections least;

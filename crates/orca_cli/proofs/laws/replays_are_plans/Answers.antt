@@ -24,7 +24,8 @@ returns c =
       memo_line = c.memos_are_known.ensures.line;
       trace_line = c.traces_are_known.ensures.line;
     } in
-    let least = λ (q : Query) (s t : Tree) (within : IsWithinLimits q) (one : IsLeastPlan q s) (other : IsLeastPlan q t).
+    let least = λ (q : Query) (s t : Tree) (within : IsWithinLimits q) (one : IsLeastPlan q s)
+    (other : IsLeastPlan q t).
     c.least_is_one.ensures q within.few_lists within.few_orders (root_of q) (root_request q) t s other one in
     let one = one_of answer sections least in
     let dumps = one_dump_of c.dumps_are_one.ensures.one c.dumps_are_one.ensures.fault c.dumps_are_one.ensures.either in

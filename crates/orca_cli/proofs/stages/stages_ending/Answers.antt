@@ -14,19 +14,21 @@ use Rattle.orca_cli.proofs.stages.stages_ending.Goals as goal
 pub returns-in-Least : goal.returns-in-Least
 returns-in-Least g c =
     let q = c.args.staged.now.asked.query in
-    let cap = c.args.choices.capacity in
+    let capacity = c.args.choices.capacity in
     let stages = c.as_slice-stages.result.now in
     let ran = c.in_ok-found.field-0.ran in
     let number = c.in-Least.stage in
     let stage = c.index-stages-stage.result in
-    let run = subst (λ f. IsStagedRun q cap stages (record { found = f; ran = c.in_ok-found.field-0.ran })) c.in-Least.is
+    let run = subst (λ f. IsStagedRun q capacity stages (record { found = f; ran = c.in_ok-found.field-0.ran }))
+    c.in-Least.is
     c.in_ok-found.ensures.run in
-    let found = found_at q cap stages ran c.staged_plans_are_least.ensures number c.in-Least.plan c.in-Least.cost run in
+    let found = found_at q capacity stages ran c.staged_plans_are_least.ensures number c.in-Least.plan c.in-Least.cost
+    run in
     let near = slice_get_within stages number found.at.stage found.at.there in
     let there = slice_get-get_or stages number stage near ∙ ap Some (sym c.index-stages-stage.is) in
     IfOk-both _ _ _ c.told.result
     (λ made status told. let (lines, is_text, is) = told in
-    least_end q cap stages ran (stages_read c.args.staged.now.stages)
+    least_end q capacity stages ran (stages_read c.args.staged.now.stages)
     (ap (map stage_read) c.as_slice-stages.ensures.stages) made.status (text_of made) number c.in-Least.plan
     c.in-Least.cost stage lines found there
     (subst (λ r. IsFoundText (query_in r stage) (founds.Least c.in-Least.plan c.in-Least.cost) lines)
@@ -36,13 +38,14 @@ returns-in-Least g c =
 pub returns-in-NoPlan : goal.returns-in-NoPlan
 returns-in-NoPlan g c =
     let q = c.args.staged.now.asked.query in
-    let cap = c.args.choices.capacity in
+    let capacity = c.args.choices.capacity in
     let stages = c.as_slice-stages.result.now in
     let ran = c.in_ok-found.field-0.ran in
-    let run = subst (λ f. IsStagedRun q cap stages (record { found = f; ran = c.in_ok-found.field-0.ran })) c.in-NoPlan.is
+    let run = subst (λ f. IsStagedRun q capacity stages (record { found = f; ran = c.in_ok-found.field-0.ran }))
+    c.in-NoPlan.is
     c.in_ok-found.ensures.run in
     IfOk-both _ _ _ c.told-in-NoPlan.result
     (λ made status told. let (lines, printed, is) = told in
-    none_end q cap stages ran (stages_read c.args.staged.now.stages)
+    none_end q capacity stages ran (stages_read c.args.staged.now.stages)
     (ap (map stage_read) c.as_slice-stages.ensures.stages) made.status (text_of made) lines run printed status is)
     c.told-in-NoPlan.ensures.status c.told-in-NoPlan.ensures.text

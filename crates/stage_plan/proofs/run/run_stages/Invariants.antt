@@ -6,5 +6,5 @@ use Rattle.stage_plan.proofs.run.run_stages.Given as goal
 abbrev pub invariant-loop-number : goal.invariant-loop-number
 invariant-loop-number g l = record {
   same : l.query ≡ l.fn.query;
-  have_run : HaveRun l.fn.query l.cap (take l.number l.stages) l.so_far.ran l.so_far.least;
+  have_run : HaveRun l.fn.query l.capacity (take l.number l.stages) l.so_far.ran l.so_far.least;
 }

@@ -9,7 +9,7 @@ returns-in-Done g c =
     let is : c.in_ok-answers.field-0
     ≡ outcomes.Done c.in-Done.members c.in-Done.goals c.in-Done.answers c.in-Done.who = cc in
     let done =
-    subst (λ outcome. RunEnds c.args.query.now c.args.cap c.args.workers outcome) is c.in_ok-answers.ensures in (
-      c.entries_fit_or_not.ensures c.args.query.now c.args.cap c.in-Done.members c.in-Done.goals done.fits,
+    subst (λ outcome. RunEnds c.args.query.now c.args.capacity c.args.workers outcome) is c.in_ok-answers.ensures in (
+      c.entries_fit_or_not.ensures c.args.query.now c.args.capacity c.in-Done.members c.in-Done.goals done.fits,
       c.in_ok-extract-in-Done.ensures,
     )

@@ -14,5 +14,5 @@ find-found-requires-clause-props g c κs within =
 
 pub returns-clause-found : goal.returns-clause-found
 returns-clause-found g c =
-    subst (λ q. IfOk c.find-found.result (IsFoundWithin q c.args.cap))
+    subst (λ q. IfOk c.find-found.result (IsFoundWithin q c.args.capacity))
     (sym (same_with_proofs (query_in c.args.query.now c.args.stage) _ _ _ _ _ _ _ _ _ _)) c.find-found.ensures

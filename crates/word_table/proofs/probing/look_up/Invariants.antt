@@ -5,5 +5,5 @@ use Rattle.word_table.proofs.probing.look_up.Given as goal
 
 -- the probe made this many steps over cells of other words
 abbrev pub invariant-loop-step : goal.invariant-loop-step
-invariant-loop-step l = HasProbed l.cap (home_of l.word l.cap) l.at l._step
+invariant-loop-step l = HasProbed l.capacity (home_of l.word l.capacity) l.at l._step
     (HasOther (λ place. get_or l.cells place 0) l.word)

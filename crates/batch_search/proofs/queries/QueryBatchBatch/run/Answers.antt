@@ -4,11 +4,12 @@ use Rattle.batch_search.proofs.queries.QueryBatchBatch.run.Goals as goal
 
 pub search_alone-requires-clause-props : goal.search_alone-requires-clause-props
 search_alone-requires-clause-props c =
-    let e : c.args.self.now ≡ (c.self.inside.queries.now, c.self.inside.cap) = cc in
+    let e : c.args.self.now ≡ (c.self.inside.queries.now, c.self.inside.capacity) = cc in
     props_here _ _ c.args.item _ _ c.self.invariant.1 (subst (λ v. c.args.item < length v.0) e c.requires)
 
 pub returns : goal.returns
 returns c =
-    let e : c.args.self.now ≡ (c.self.inside.queries.now, c.self.inside.cap) = cc in
-    ends_here c.self.inside.queries.now c.self.inside.cap c.args.item c.args.self.now c.index-self-at.result c.search_alone.result e
+    let e : c.args.self.now ≡ (c.self.inside.queries.now, c.self.inside.capacity) = cc in
+    ends_here c.self.inside.queries.now c.self.inside.capacity c.args.item c.args.self.now c.index-self-at.result
+    c.search_alone.result e
     (subst (λ v. c.args.item < length v.0) e c.requires) c.search_alone.ensures.ends

@@ -7,7 +7,7 @@ use Rattle.board_moves.proofs.job.Job.wait.Goals as goal
 
 pub returns-then-self-eq8-clause-awaits : goal.returns-then-self-eq8-clause-awaits
 returns-then-self-eq8-clause-awaits g c =
-    let meaning = g.R.GoalRules.meaning c.args.board.now.key.rules in
+    let meaning = g.R.GoalRules.meaning c.args.board.now.setup.rules in
     let eight = c.if-self-eq8.true in
     let same = c.args.self.now.counted in (
       proceeds_none (meaning.child c.args.self.now.right.goal) (hands c.args.seat.now) c.args.self.now.right,
@@ -19,9 +19,10 @@ unreachable-requires g c =
     let laws = g.met.R.GoalRules g.world.𝓛 g.world.𝓜 g.world.𝓡 ((λ s x. x), (λ x. x), (λ x. x), λ x. x) in
     let b = c.args.board.now in
     let right = c.args.self.now.right in
-    let some_child : c.args.child ≢ 0 = laws.zero_enters_not b.key.rules c.args.child
-    (laws.children_enter b.key.rules right.goal c.args.child c.requires.right.enters c.requires.child).0 in
-    not_open (g.R.GoalRules.meaning b.key.rules) b.key.room c.args.child some_child (hands c.args.seat.now) right.place
+    let some_child : c.args.child ≢ 0 = laws.zero_enters_not b.setup.rules c.args.child
+    (laws.children_enter b.setup.rules right.goal c.args.child c.requires.right.enters c.requires.child).0 in
+    not_open (g.R.GoalRules.meaning b.setup.rules) b.setup.capacity c.args.child some_child (hands c.args.seat.now)
+    right.place
     c.args.at (hands c.wait_for.new.seat) (hands c.answer.new.seat) c.requires.near c.requires.stands
     c.in-Finished.ensures.answer c.in-None.ensures.answer
 
@@ -30,9 +31,10 @@ returns-in-Registered-clause-awaits g c =
     let laws = g.met.R.GoalRules g.world.𝓛 g.world.𝓜 g.world.𝓡 ((λ s x. x), (λ x. x), (λ x. x), λ x. x) in
     let b = c.args.board.now in
     let right = c.args.self.now.right in
-    let some_child : c.args.child ≢ 0 = laws.zero_enters_not b.key.rules c.args.child
-    (laws.children_enter b.key.rules right.goal c.args.child c.requires.right.enters c.requires.child).0 in
-    awaits_registered (g.R.GoalRules.meaning b.key.rules) b.key.room c.args.child some_child (hands c.args.seat.now)
+    let some_child : c.args.child ≢ 0 = laws.zero_enters_not b.setup.rules c.args.child
+    (laws.children_enter b.setup.rules right.goal c.args.child c.requires.right.enters c.requires.child).0 in
+    awaits_registered (g.R.GoalRules.meaning b.setup.rules) b.setup.capacity c.args.child some_child
+    (hands c.args.seat.now)
     right c.args.at c.requires.child (hands c.wait_for.new.seat) c.wait_for.new.right c.in-Registered.ensures.answer
     c.in-Registered.ensures.right
 
@@ -41,9 +43,10 @@ returns-in-Some-clause-awaits g c =
     let laws = g.met.R.GoalRules g.world.𝓛 g.world.𝓜 g.world.𝓡 ((λ s x. x), (λ x. x), (λ x. x), λ x. x) in
     let b = c.args.board.now in
     let right = c.args.self.now.right in
-    let some_child : c.args.child ≢ 0 = laws.zero_enters_not b.key.rules c.args.child
-    (laws.children_enter b.key.rules right.goal c.args.child c.requires.right.enters c.requires.child).0 in
-    awaits_finished (g.R.GoalRules.meaning b.key.rules) b.key.room c.args.child some_child (hands c.args.seat.now) right
+    let some_child : c.args.child ≢ 0 = laws.zero_enters_not b.setup.rules c.args.child
+    (laws.children_enter b.setup.rules right.goal c.args.child c.requires.right.enters c.requires.child).0 in
+    awaits_finished (g.R.GoalRules.meaning b.setup.rules) b.setup.capacity c.args.child some_child
+    (hands c.args.seat.now) right
     c.args.at c.requires.child (hands c.wait_for.new.seat) c.in-Some.answer (hands c.answer.new.seat)
     c.wait_for.new.right
     c.requires.near c.requires.stands c.in-Finished.ensures.answer c.in-Finished.ensures.right c.in-Some.ensures.answer

@@ -11,7 +11,8 @@ use Rattle.goal_board.proofs.board.Board.begin_wait.Goals as goal
 pub fetch_or-requires : goal.fetch_or-requires
 fetch_or-requires g c =
     let b = c.args.self.now in
-    let may = lawful b (λ _ room. MayBegin room (hands c.args.seat.now) (waiting_right c.args.place c.args.waits)) c.requires.may in (
+    let may = lawful b (λ _ capacity. MayBegin capacity (hands c.args.seat.now)
+    (waiting_right c.args.place c.args.waits)) c.requires.may in (
       c.requires.seat.same_table,
       (let at = c.run_at.ensures in let near = c.requires.may.near in let sized = b.sized.0 in omega arith),
       begin_allowed g.R.GoalRules.meaning _ _ _ _ _ _ _ _ c.run_at.ensures c.bit_of.ensures c.args.seat.now.awake may,

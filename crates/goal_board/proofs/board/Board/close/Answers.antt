@@ -4,7 +4,7 @@ use Rattle.std.specs.Slots.{slots_items}
 use Rattle.board_rule.specs.Meaning.{Meaning}
 use Rattle.board_rule.specs.Words.{Mem, mem}
 use Rattle.board_rule.specs.Rule.{IsSound}
-use Rattle.board_rule.specs.declared.law.Key.{Key}
+use Rattle.board_rule.specs.declared.law.Setup.{Setup}
 use Rattle.goal_board.specs.Seats.{hands}
 use Rattle.goal_board.specs.Closed.{HasWorkers, ReadsBoard, ClosesWith}
 use Rattle.goal_board.specs.declared.answers.Closed.{Closed}
@@ -12,20 +12,21 @@ use Rattle.goal_board.proofs.LastSeat.{has_workers, closes_with}
 use Rattle.goal_board.proofs.board.Board.close.Goals as goal
 
 -- what follows from what was read
-from_read : {E : Type 0} → (meaning : Meaning) (room : ℕ) (m : Mem) (P : Closed → Type 0) (r : Result Closed E)
-    → IfOk r (λ c. ReadsBoard meaning room m c) → ((c : Closed) → ReadsBoard meaning room m c → P c) → IfOk r P
-from_read meaning room m P (Ok c) reads so = so c reads
-from_read meaning room m P (Err e) reads so = tt
+from_read : {E : Type 0} → (meaning : Meaning) (capacity : ℕ) (m : Mem) (P : Closed → Type 0) (r : Result Closed E)
+    → IfOk r (λ c. ReadsBoard meaning capacity m c) → ((c : Closed) → ReadsBoard meaning capacity m c → P c) → IfOk r P
+from_read meaning capacity m P (Ok c) reads so = so c reads
+from_read meaning capacity m P (Err e) reads so = tt
 
 pub read_all-read-requires-clause-workers : goal.read_all-read-requires-clause-workers
 read_all-read-requires-clause-workers g c κs within =
     let b = c.args.self in
     let last = c.close_with-words.ensures.values.2 in
     let v = hands c.args.seat in
-    let sound = subst (λ (k : Key _). IsSound (g.R.GoalRules.meaning k.rules) k.rules k.room last.0.words last.0.views)
+    let sound = subst (λ (k : Setup _). IsSound (g.R.GoalRules.meaning k.rules) k.rules k.capacity last.0.words
+    last.0.views)
     b.keyed last.1.0 in
-    subst (λ ws. HasWorkers (mem ws) b.key.room) last.2
-    (has_workers (g.R.GoalRules.meaning b.key.rules) b.key.rules b.key.room last.0.words last.0.views sound
+    subst (λ ws. HasWorkers (mem ws) b.setup.capacity) last.2
+    (has_workers (g.R.GoalRules.meaning b.setup.rules) b.setup.rules b.setup.capacity last.0.words last.0.views sound
     c.args.seat.seat.id v last.1.1 c.requires.parts)
 
 pub returns : goal.returns
@@ -35,12 +36,14 @@ returns g c =
     let last = c.close_with-words.ensures.values.2 in
     let v = hands c.args.seat in
     let items = slots_items c.close_with-words.result.words in
-    let sound = subst (λ ws. IsSound (g.R.GoalRules.meaning b.key.rules) b.key.rules b.key.room ws last.0.views) last.2
-    (subst (λ (k : Key _). IsSound (g.R.GoalRules.meaning k.rules) k.rules k.room last.0.words last.0.views) b.keyed
+    let sound = subst (λ ws. IsSound (g.R.GoalRules.meaning b.setup.rules) b.setup.rules b.setup.capacity ws
+    last.0.views) last.2
+    (subst (λ (k : Setup _). IsSound (g.R.GoalRules.meaning k.rules) k.rules k.capacity last.0.words last.0.views)
+    b.keyed
     last.1.0) in
-    from_read (g.R.GoalRules.meaning b.key.rules) b.key.room (mem items)
-    (ClosesWith g.R.GoalRules.meaning b.key.rules b.key.room v) c.read_all-read.result c.read_all-read.ensures
-    (λ closed reads. closes_with g.R.GoalRules.meaning b.key.rules b.key.room items last.0.views sound
+    from_read (g.R.GoalRules.meaning b.setup.rules) b.setup.capacity (mem items)
+    (ClosesWith g.R.GoalRules.meaning b.setup.rules b.setup.capacity v) c.read_all-read.result c.read_all-read.ensures
+    (λ closed reads. closes_with g.R.GoalRules.meaning b.setup.rules b.setup.capacity items last.0.views sound
     c.args.seat.seat.id v last.1.1 c.requires.parts c.requires.rights c.requires.seat.free
-    (λ goal child enters is. (laws.children_enter b.key.rules goal child enters is).1)
-    (g.R.GoalRules.rank_of b.key.rules) (laws.ranks_fall b.key.rules) closed reads)
+    (λ goal child enters is. (laws.children_enter b.setup.rules goal child enters is).1)
+    (g.R.GoalRules.rank_of b.setup.rules) (laws.ranks_fall b.setup.rules) closed reads)

@@ -10,7 +10,8 @@ use Rattle.goal_board.proofs.board.Board.close_head.Goals as goal
 pub swap-requires : goal.swap-requires
 swap-requires g c =
     let b = c.args.self.now in
-    let may = lawful b (λ rules room. MayClose (g.R.GoalRules.meaning rules) room (hands c.args.seat.now) c.args.place
+    let may = lawful b (λ rules capacity. MayClose (g.R.GoalRules.meaning rules) capacity (hands c.args.seat.now)
+    c.args.place
     c.args._worker c.args._cost c.args._node) c.requires.may in (
       c.requires.seat.same_table,
       (let at = c.head_at.ensures in let near = c.requires.may.near in let sized = b.sized.0 in omega arith),

@@ -9,7 +9,7 @@ use Rattle.goal_board.proofs.board.Board.fill.Goals as goal
 pub store-requires : goal.store-requires
 store-requires g c =
     let b = c.args.self.now in
-    let may = lawful b (λ rules room. MayFill (g.R.GoalRules.meaning rules) room (hands c.args.seat.now))
+    let may = lawful b (λ rules capacity. MayFill (g.R.GoalRules.meaning rules) capacity (hands c.args.seat.now))
     c.requires.may in (
       c.requires.seat.same_table,
       (let sized = b.sized.0 in omega arith),

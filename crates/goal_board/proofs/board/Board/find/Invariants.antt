@@ -6,6 +6,7 @@ use Rattle.goal_board.proofs.board.Board.find.Given as goal
 abbrev pub invariant-loop-step : goal.invariant-loop-step
 invariant-loop-step g l = record {
   seat : IsSeatOf g.R.GoalRules.meaning l.self l.seat;
-  probes : Probes g.R.GoalRules.meaning l.self.key.rules l.self.key.room (hands l.initial.seat) l.word l._step l.place
+  probes : Probes g.R.GoalRules.meaning l.self.setup.rules l.self.setup.capacity (hands l.initial.seat) l.word l._step
+      l.place
       (hands l.seat);
 }

@@ -16,7 +16,7 @@ use Rattle.goal_board.proofs.board.Board.finish.Goals as goal
 
 pub store_cost-requires-clause-may : goal.store_cost-requires-clause-may
 store_cost-requires-clause-may g c κs within =
-    has_right c.args.self.now.key.room (hands c.args.seat.now).rights (fresh_right c.args.right.place)
+    has_right c.args.self.now.setup.capacity (hands c.args.seat.now).rights (fresh_right c.args.right.place)
     c.requires.right.near (held_fresh (hands c.args.seat.now).rights c.args.right.place c.args.right.waits
     c.requires.waits c.requires.right.held)
 
@@ -24,8 +24,9 @@ pub store_node-requires-clause-may : goal.store_node-requires-clause-may
 store_node-requires-clause-may g c κs within =
     let v = hands c.args.seat.now in
     let p = c.args.right.place in
-    subst (λ (h : Hands _). HasRight c.args.self.now.key.room h.rights p) (sym c.store_cost.ensures.hands)
-    (has_right c.args.self.now.key.room (with_cost p c.args.answer.cost v.rights) (with_first p c.args.answer.cost)
+    subst (λ (h : Hands _). HasRight c.args.self.now.setup.capacity h.rights p) (sym c.store_cost.ensures.hands)
+    (has_right c.args.self.now.setup.capacity (with_cost p c.args.answer.cost v.rights)
+    (with_first p c.args.answer.cost)
     c.requires.right.near
     (cost_among v.rights p c.args.answer.cost
     (held_fresh v.rights p c.args.right.waits c.requires.waits c.requires.right.held)))
@@ -35,9 +36,10 @@ store_who-requires-clause-may g c κs within =
     let v = hands c.args.seat.now in
     let p = c.args.right.place in
     let a = c.args.answer in
-    subst (λ (h : Hands _). HasRight c.args.self.now.key.room h.rights p)
+    subst (λ (h : Hands _). HasRight c.args.self.now.setup.capacity h.rights p)
     (sym (c.store_node.ensures.hands ∙ ap (λ (h : Hands _). node_stored h p a.node) c.store_cost.ensures.hands))
-    (has_right c.args.self.now.key.room (with_node p a.node (with_cost p a.cost v.rights)) (with_second p a.cost a.node)
+    (has_right c.args.self.now.setup.capacity (with_node p a.node (with_cost p a.cost v.rights))
+    (with_second p a.cost a.node)
     c.requires.right.near
     (node_among (with_cost p a.cost v.rights) p a.cost a.node
     (cost_among v.rights p a.cost (held_fresh v.rights p c.args.right.waits c.requires.waits
@@ -53,7 +55,8 @@ close_head-head-requires-clause-may g c κs within =
     (c.args.worker + 1) =
     c.store_who.ensures.hands ∙ ap (λ (h : Hands _). who_stored h p (c.args.worker + 1)) (c.store_node.ensures.hands
     ∙ ap (λ (h : Hands _). node_stored h p a.node) c.store_cost.ensures.hands) in
-    subst (λ (h : Hands _). MayClose (g.R.GoalRules.meaning c.args.self.now.key.rules) c.args.self.now.key.room h p
+    subst (λ (h : Hands _). MayClose (g.R.GoalRules.meaning c.args.self.now.setup.rules)
+    c.args.self.now.setup.capacity h p
     c.args.worker a.cost a.node) (sym stored) (record {
       near = r.near;
       stored = who_among (with_node p a.node (with_cost p a.cost v.rights)) p c.args.worker a.cost a.node
@@ -84,15 +87,17 @@ pub wake-requires-clause-near : goal.wake-requires-clause-near
 wake-requires-clause-near g c κs within =
     let told = c.close_head-head.ensures.told in
     subst (λ n. Each (λ q. q < 8 * n) (hands c.close_head-head.new.seat).walk.waiters)
-    c.store_who.ensures.seat.over.its_room
-    (subst (λ (h : Hands _). Each (λ q. q < 8 * (hands c.store_who.new.seat).room) h.walk.waiters)
+    c.store_who.ensures.seat.over.its_capacity
+    (subst (λ (h : Hands _). Each (λ q. q < 8 * (hands c.store_who.new.seat).capacity) h.walk.waiters)
     (sym told.leaves.hands_are) told.near)
 
 pub wake-requires-clause-few : goal.wake-requires-clause-few
 wake-requires-clause-few g c κs within =
     let told = c.close_head-head.ensures.told in
-    subst (λ n. length (hands c.close_head-head.new.seat).walk.waiters ≤ 8 * n) c.store_who.ensures.seat.over.its_room
-    (subst (λ (h : Hands _). length h.walk.waiters ≤ 8 * (hands c.store_who.new.seat).room) (sym told.leaves.hands_are)
+    subst (λ n. length (hands c.close_head-head.new.seat).walk.waiters ≤ 8 * n)
+    c.store_who.ensures.seat.over.its_capacity
+    (subst (λ (h : Hands _). length h.walk.waiters ≤ 8 * (hands c.store_who.new.seat).capacity)
+    (sym told.leaves.hands_are)
     told.few)
 
 pub returns-clause-answer : goal.returns-clause-answer
@@ -105,7 +110,7 @@ returns-clause-answer g c =
     (c.args.worker + 1) =
     c.store_who.ensures.hands ∙ ap (λ (h : Hands _). who_stored h p (c.args.worker + 1)) (c.store_node.ensures.hands
     ∙ ap (λ (h : Hands _). node_stored h p a.node) c.store_cost.ensures.hands) in
-    let few = once_held g.R.GoalRules.meaning c.args.self.now.key.rules c.args.self.now.key.room
+    let few = once_held g.R.GoalRules.meaning c.args.self.now.setup.rules c.args.self.now.setup.capacity
     (hands c.store_who.new.seat) (head_word p) c.close_head-head.result p
     c.store_who.ensures.seat.over told.leaves.moment c.requires.right.near in
     let is : hands c.close_head-head.new.seat ≡ finishes v p c.args.worker a.cost a.node told.waiters =
@@ -115,9 +120,9 @@ returns-clause-answer g c =
     (left_over v.rights p c.args.worker a.cost a.node (subst (λ (h : Hands _). rights_at p h.rights ≤ 1) stored few)) in
     record {
       waiters = told.waiters;
-      wakes = subst (λ (h : Hands _). Wakes c.args.self.now.key.room h c.wake.result (hands c.wake.new.seat)) is
+      wakes = subst (λ (h : Hands _). Wakes c.args.self.now.setup.capacity h c.wake.result (hands c.wake.new.seat)) is
           c.wake.ensures.answer;
-      lone = open_before g.R.GoalRules.meaning c.args.self.now.key.rules c.args.self.now.key.room v
+      lone = open_before g.R.GoalRules.meaning c.args.self.now.setup.rules c.args.self.now.setup.capacity v
           (hands c.store_who.new.seat) p c.args.worker a.cost a.node c.close_head-head.result
           c.store_who.ensures.seat.over stored told.leaves.moment c.requires.right.near
           (held_fresh v.rights p c.args.right.waits c.requires.waits c.requires.right.held);

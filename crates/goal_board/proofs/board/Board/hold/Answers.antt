@@ -11,7 +11,8 @@ use Rattle.goal_board.proofs.board.Board.hold.Goals as goal
 pub compare_exchange-requires : goal.compare_exchange-requires
 compare_exchange-requires g c =
     let b = c.args.self.now in
-    let may = lawful b (λ rules room. MayClaim (g.R.GoalRules.meaning rules) room (hands c.args.seat.now) c.args.place)
+    let may = lawful b (λ rules capacity. MayClaim (g.R.GoalRules.meaning rules) capacity (hands c.args.seat.now)
+    c.args.place)
     c.requires.may in (
       c.requires.seat.same_table,
       (let at = c.run_at.ensures in let near = c.requires.may.near in let sized = b.sized.0 in omega arith),

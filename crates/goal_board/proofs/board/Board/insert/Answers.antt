@@ -35,7 +35,7 @@ put-found-requires-clause-may g c κs within =
     let laws = g.met.R.GoalRules g.world.𝓛 g.world.𝓜 g.world.𝓡 ((λ s x. x), (λ x. x), (λ x. x), λ x. x) in
     may_put (looks_here inv.probes inv.seat.over c.loop-step.seat.awake
     (looks_at c.cell_at.ensures c.look-seen.ensures.told)) c.loop-step-test.true c.requires.enters
-    (laws.zero_enters_not c.args.self.now.key.rules c.args.word c.requires.enters)
+    (laws.zero_enters_not c.args.self.now.setup.rules c.args.word c.requires.enters)
 
 pub returns-then-found-eq0-clause-answer : goal.returns-then-found-eq0-clause-answer
 returns-then-found-eq0-clause-answer g c =

@@ -1,7 +1,7 @@
 -- A seat takes in another that holds no right.
 use Rattle.std.proofs.Common.{sym, subst, ◌∙◌, arith}
 use Rattle.atomic_table.specs.Table.{Joins}
-use Rattle.board_rule.specs.declared.law.Key.{Key}
+use Rattle.board_rule.specs.declared.law.Setup.{Setup}
 use Rattle.board_rule.specs.Seats.{joined, spent}
 use Rattle.board_rule.specs.Plays.{Sat}
 use Rattle.board_rule.proofs.Looking.{Holds}
@@ -21,9 +21,10 @@ join_seat-requires g c =
       c.requires.seats.1.same_table,
       c.args.other.bare,
       (let sized = b.sized.0 in omega arith),
-      subst (λ (k : Key _). Joins (Holds meaning k.rules k.room) s.id s.me.0 o.id o.me.0 (joined s.me.0 o.me.0) spent)
+      subst (λ (k : Setup _). Joins (Holds meaning k.rules k.capacity) s.id s.me.0 o.id o.me.0 (joined s.me.0 o.me.0)
+          spent)
           (sym b.keyed)
-          (join_allowed meaning b.key.rules b.key.room s.id o.id s.me.0 o.me.0 c.args.seat.now.awake (record {
+          (join_allowed meaning b.setup.rules b.setup.capacity s.id o.id s.me.0 o.me.0 c.args.seat.now.awake (record {
             no_right = c.requires.rights;
             free = c.requires.seats.1.free.no_wait;
             walked = c.requires.seats.1.free.no_walk;
@@ -39,8 +40,8 @@ returns-clause-seat g c =
     let told = c.join_seat.ensures in
     record {
       same_table = told.0 ∙ c.requires.seats.0.same_table;
-      over = subst (λ (m : Sat _). AreHandsOver meaning b.key.rules b.key.room m.0) (sym told.2)
-          (over_joined meaning b.key.rules b.key.room s.me.0 c.args.other.seat.me.0 c.requires.seats.0.over
+      over = subst (λ (m : Sat _). AreHandsOver meaning b.setup.rules b.setup.capacity m.0) (sym told.2)
+          (over_joined meaning b.setup.rules b.setup.capacity s.me.0 c.args.other.seat.me.0 c.requires.seats.0.over
           c.requires.seats.1.over);
       free = subst (λ (m : Sat _). IsFree m.0) (sym told.2)
           (record { no_wait = c.requires.seats.0.free.no_wait; no_walk = c.requires.seats.0.free.no_walk });

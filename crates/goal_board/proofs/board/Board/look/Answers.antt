@@ -30,7 +30,7 @@ returns-clause-seat g c =
     let free = c.requires.seat.free in
     record {
       same_table = c.load.ensures.0 ∙ c.requires.seat.same_table;
-      over = subst (AreHandsOver g.R.GoalRules.meaning b.key.rules b.key.room) (sym told.hands_are)
+      over = subst (AreHandsOver g.R.GoalRules.meaning b.setup.rules b.setup.capacity) (sym told.hands_are)
           (over_looked g.R.GoalRules.meaning _ _ _ _ _ over told.moment);
       free = subst IsFree (sym told.hands_are) (record { no_wait = free.no_wait; no_walk = free.no_walk });
     }

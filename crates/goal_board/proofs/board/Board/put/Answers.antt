@@ -10,7 +10,8 @@ use Rattle.goal_board.proofs.board.Board.put.Goals as goal
 pub compare_exchange-requires : goal.compare_exchange-requires
 compare_exchange-requires g c =
     let b = c.args.self.now in
-    let may = lawful b (λ rules room. MayPut (g.R.GoalRules.meaning rules) room (hands c.args.seat.now) c.args.place
+    let may = lawful b (λ rules capacity. MayPut (g.R.GoalRules.meaning rules) capacity (hands c.args.seat.now)
+    c.args.place
     c.args.word) c.requires.may in (
       c.requires.seat.same_table,
       (let at = c.cell_at.ensures in let near = c.requires.may.near in let sized = b.sized.0 in omega arith),

@@ -14,7 +14,7 @@ pub compare_exchange-requires : goal.compare_exchange-requires
 compare_exchange-requires g c =
     let b = c.args.self.now in
     let v = hands c.args.seat.now in
-    let may = lawful b (λ _ room. MayPush room v (the_wait v) c.args.head) c.requires.may in (
+    let may = lawful b (λ _ capacity. MayPush capacity v (the_wait v) c.args.head) c.requires.may in (
       c.requires.seat.same_table,
       (let at = c.head_at.ensures in let near = c.requires.near in let sized = b.sized.0 in omega arith),
       push_allowed g.R.GoalRules.meaning _ _ _ _ _ _ (the_wait v) _ _
@@ -42,7 +42,7 @@ returns-clause-seat g c =
     let over = c.requires.seat.over in
     record {
       same_table = c.compare_exchange.ensures.0 ∙ c.requires.seat.same_table;
-      over = either_way (AreHandsOver g.R.GoalRules.meaning b.key.rules b.key.room) told.hit told.miss
+      over = either_way (AreHandsOver g.R.GoalRules.meaning b.setup.rules b.setup.capacity) told.hit told.miss
           (over_beside g.R.GoalRules.meaning _ _ _ _ _ _ refl refl refl (λ p e. omega arith)
           (all_changed _ _ _ _ over.all) over)
           (over_beside g.R.GoalRules.meaning _ _ _ _ _ _ refl refl refl (λ p e. omega arith) over.all over);

@@ -13,7 +13,7 @@ fetch_and-requires g c =
       c.requires.seat.same_table,
       (let at = c.run_at.ensures in let near = c.requires.may.has.near in let sized = b.sized.0 in omega arith),
       suspend_allowed g.R.GoalRules.meaning _ _ _ _ _ _ _ c.run_at.ensures c.args.seat.now.awake
-          (lawful b (λ _ room. MaySuspend room (hands c.args.seat.now) c.args.place) c.requires.may),
+          (lawful b (λ _ capacity. MaySuspend capacity (hands c.args.seat.now) c.args.place) c.requires.may),
     )
 
 pub invariant_of-seat : goal.invariant_of-seat

@@ -9,7 +9,7 @@ use Rattle.goal_board.proofs.board.Board.see_head.Goals as goal
 pub load-requires : goal.load-requires
 load-requires g c =
     let b = c.args.self.now in
-    let may = lawful b (λ rules room. MaySee (g.R.GoalRules.meaning rules) room (hands c.args.seat.now)
+    let may = lawful b (λ rules capacity. MaySee (g.R.GoalRules.meaning rules) capacity (hands c.args.seat.now)
     (the_wait (hands c.args.seat.now)) c.args.child)
     c.requires.may in (
       c.requires.seat.same_table,

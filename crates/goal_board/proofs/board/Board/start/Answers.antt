@@ -8,6 +8,7 @@ use Rattle.goal_board.proofs.board.Board.start.Goals as goal
 pub of_words-requires : goal.of_words-requires
 of_words-requires g c =
     let meaning = g.R.GoalRules.meaning in
-    subst (λ ws. IsSound (meaning c.args.rules) c.args.rules c.args.cap ws (opening_hands c.args.rules c.args.cap ∷ []))
+    subst (λ ws. IsSound (meaning c.args.rules) c.args.rules c.args.capacity ws
+    (opening_hands c.args.rules c.args.capacity ∷ []))
     (sym (c.as_slice.ensures.value ∙ c.in_ok-words.ensures.items_if_clones_equal (λ y e. e)))
-    (start_sound meaning c.args.rules c.args.cap)
+    (start_sound meaning c.args.rules c.args.capacity)

@@ -8,7 +8,7 @@ use Rattle.goal_board.proofs.board.Board.suspend.Goals as goal
 
 pub release-requires-clause-may : goal.release-requires-clause-may
 release-requires-clause-may g c κs within = record {
-  has = has_right c.args.self.now.key.room (hands c.args.seat.now).rights
+  has = has_right c.args.self.now.setup.capacity (hands c.args.seat.now).rights
       (waiting_right c.args.right.place c.args.right.waits) c.requires.right.near c.requires.right.held;
   free = c.requires.seat.free.no_wait;
 }
@@ -20,7 +20,7 @@ returns-then-release-eq-HELD-clause-answer g c =
 pub returns-else-release-eq-HELD-clause-answer : goal.returns-else-release-eq-HELD-clause-answer
 returns-else-release-eq-HELD-clause-answer g c =
     suspends_waiting c.requires.seat.over (record {
-      has = has_right c.args.self.now.key.room (hands c.args.seat.now).rights
+      has = has_right c.args.self.now.setup.capacity (hands c.args.seat.now).rights
           (waiting_right c.args.right.place c.args.right.waits) c.requires.right.near c.requires.right.held;
       free = c.requires.seat.free.no_wait;
     }) c.release.ensures.told c.if-release-eq-HELD.false

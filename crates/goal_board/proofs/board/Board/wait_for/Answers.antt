@@ -38,11 +38,13 @@ see_head-head-requires-clause-may g c κs within =
     let child = c.requires.child in
     let told = c.begin_wait.ensures.told in
     let place : ℕ = c.args.right.now.place in
-    let waits = its_waits g.R.GoalRules.meaning b.key.rules b.key.room v (run_word place) c.begin_wait.result place
+    let waits = its_waits g.R.GoalRules.meaning b.setup.rules b.setup.capacity v (run_word place) c.begin_wait.result
+    place
     c.args.right.now.waits c.requires.seat.over told.moment r.near r.held in
     let few : waits_at place v.rights < 8 = subst (λ n. n < 8) (sym waits) c.requires.fewer in
     let at : (8 * place + waits_at place v.rights) / 8 ≡ place = omega arith in
-    subst (λ (h : Hands _). MaySee (g.R.GoalRules.meaning b.key.rules) b.key.room h (the_wait h) c.args.child_at) (sym told.hands_are) (record {
+    subst (λ (h : Hands _). MaySee (g.R.GoalRules.meaning b.setup.rules) b.setup.capacity h (the_wait h)
+    c.args.child_at) (sym told.hands_are) (record {
       is = refl;
       near = c.requires.near;
       goal = c.args.right.now.goal;
@@ -52,7 +54,7 @@ see_head-head-requires-clause-may g c κs within =
       other = child.other;
       some_other = child.some_other;
       other_stands = inr child.stands;
-      is_goal = (laws.children_enter b.key.rules c.args.right.now.goal child.other r.enters child.is_child).1;
+      is_goal = (laws.children_enter b.setup.rules c.args.right.now.goal child.other r.enters child.is_child).1;
       is_child = child.is_child;
     })
 
@@ -64,12 +66,13 @@ loop-head-init g c =
     let told = c.begin_wait.ensures.told in
     let saw = c.see_head-head.ensures.told in
     let place : ℕ = c.args.right.now.place in
-    let waits = its_waits g.R.GoalRules.meaning b.key.rules b.key.room v (run_word place) c.begin_wait.result place
+    let waits = its_waits g.R.GoalRules.meaning b.setup.rules b.setup.capacity v (run_word place) c.begin_wait.result
+    place
     c.args.right.now.waits c.requires.seat.over told.moment r.near r.held in
     record {
       right = refl;
       seat = c.see_head-head.ensures.seat;
-      putting = putting_begins g.R.GoalRules.meaning b.key.rules b.key.room v (hands c.begin_wait.new.seat)
+      putting = putting_begins g.R.GoalRules.meaning b.setup.rules b.setup.capacity v (hands c.begin_wait.new.seat)
           (hands c.see_head-head.new.seat) place c.args.right.now.waits c.args.child_at c.begin_wait.result
           c.see_head-head.result b.sized.3 r.near c.requires.near c.requires.fewer waits c.requires.seat.over
           told.moment c.begin_wait.ensures.seat.over saw.moment told.hands_are saw.hands_are;
@@ -88,7 +91,7 @@ store_next-requires-clause-waiter g c κs within =
 pub put_wait-found-requires-clause-may : goal.put_wait-found-requires-clause-may
 put_wait-found-requires-clause-may g c κs within =
     let p = c.loop-head.invariant.putting in
-    subst (λ (h : Hands _). MayPush c.args.self.now.key.room h (the_wait h) c.loop-head.head)
+    subst (λ (h : Hands _). MayPush c.args.self.now.setup.capacity h (the_wait h) c.loop-head.head)
     (sym (c.store_next.ensures.hands ∙ ap (λ (h : Hands _). next_stored h (the_wait h) c.loop-head.head)
     p.hands_are))
     (record { is = refl; seen = refl; linked = refl; small = c.args.self.now.sized.3 })
@@ -119,7 +122,7 @@ loop-head-preserved g c =
     record {
       right = c.loop-head.invariant.right;
       seat = c.put_wait-found.ensures.seat;
-      putting = putting_goes_on g.R.GoalRules.meaning b.key.rules b.key.room (hands c.args.seat.now)
+      putting = putting_goes_on g.R.GoalRules.meaning b.setup.rules b.setup.capacity (hands c.args.seat.now)
           (hands c.loop-head.seat) (hands c.store_next.new.seat) (hands c.put_wait-found.new.seat)
           (8 * c.args.right.now.place + c.args.right.now.waits) c.args.child_at c.loop-head.head
           c.put_wait-found.result b.sized.3 c.requires.near c.loop-head-test.true c.if-found-head.false
@@ -133,9 +136,9 @@ loop-head-smaller g c =
     let v = hands c.args.seat.now in
     let p = c.loop-head.invariant.putting in
     let told = push_at (linked_child p c.store_next.ensures.hands) c.put_wait-found.ensures.told in
-    nearer b.key.room c.loop-head.head c.put_wait-found.result b.sized.3 c.loop-head-test.true
+    nearer b.setup.capacity c.loop-head.head c.put_wait-found.result b.sized.3 c.loop-head-test.true
     (p.bound c.loop-head-test.true)
-    (found_later g.R.GoalRules.meaning b.key.rules b.key.room v (hands c.loop-head.seat)
+    (found_later g.R.GoalRules.meaning b.setup.rules b.setup.capacity v (hands c.loop-head.seat)
     (hands c.store_next.new.seat) (8 * c.args.right.now.place + c.args.right.now.waits) c.args.child_at c.loop-head.head
     c.put_wait-found.result c.store_next.ensures.seat.over told.1 p c.store_next.ensures.hands)
     c.if-found-head.false
@@ -165,9 +168,11 @@ returns-then-found-head-clause-answer g c =
     let waits : ℕ = c.args.right.now.waits in
     let told = c.put_wait-found.ensures.told in
     let moment = (push_at (linked_child c.loop-head.invariant.putting c.store_next.ensures.hands) told).1 in
-    let its = its_waits g.R.GoalRules.meaning b.key.rules b.key.room v (run_word place) c.begin_wait.result place waits
+    let its = its_waits g.R.GoalRules.meaning b.setup.rules b.setup.capacity v (run_word place) c.begin_wait.result
+    place waits
     c.requires.seat.over c.begin_wait.ensures.told.moment r.near r.held in
-    registers g.R.GoalRules.meaning b.key.rules b.key.room v (hands c.loop-head.seat) (hands c.store_next.new.seat)
+    registers g.R.GoalRules.meaning b.setup.rules b.setup.capacity v (hands c.loop-head.seat)
+    (hands c.store_next.new.seat)
     (hands c.put_wait-found.new.seat) place waits c.args.child_at c.loop-head.head
     b.sized.3 r.near c.requires.fewer its c.requires.seat.free.no_wait c.loop-head.invariant.putting
     c.store_next.ensures.hands c.store_next.ensures.seat.over
@@ -206,13 +211,15 @@ returns-clause-answer g c =
     let v = hands c.args.seat.now in
     let place : ℕ = c.args.right.now.place in
     let waits : ℕ = c.args.right.now.waits in
-    finds_finished g.R.GoalRules.meaning b.key.rules b.key.room v (hands c.loop-head.seat) (hands c.drop_wait.new.seat)
+    finds_finished g.R.GoalRules.meaning b.setup.rules b.setup.capacity v (hands c.loop-head.seat)
+    (hands c.drop_wait.new.seat)
     place waits c.args.child_at c.loop-head.head c.begin_wait.result c.drop_wait.result
     r.near c.requires.fewer c.requires.seat.free.no_wait r.held
-    (has_right b.key.room v.rights (waiting_right place waits) r.near r.held)
+    (has_right b.setup.capacity v.rights (waiting_right place waits) r.near r.held)
     c.requires.seat.over c.begin_wait.ensures.told.moment c.loop-head.invariant.putting c.loop-head-test.false
     c.loop-head.invariant.seat.over
-    (dropped_at (the_wait (hands c.loop-head.seat)) (ap (λ (h : Hands _). (the_wait h).waiter) c.loop-head.invariant.putting.hands_are)
+    (dropped_at (the_wait (hands c.loop-head.seat)) (ap (λ (h : Hands _). (the_wait h).waiter)
+    c.loop-head.invariant.putting.hands_are)
     c.drop_wait.ensures.told)
 
 pub returns-then-found-head-clause-right : goal.returns-then-found-head-clause-right
@@ -225,22 +232,23 @@ returns-clause-right g c = c.loop-head.invariant.right
 pub returns-then-found-head-clause-its : goal.returns-then-found-head-clause-its
 returns-then-found-head-clause-its g c =
     let b = c.args.self.now in
-    let meaning = g.R.GoalRules.meaning b.key.rules in
+    let meaning = g.R.GoalRules.meaning b.setup.rules in
     let w = hands c.put_wait-found.new.seat in
     let a = returns-then-found-head-clause-answer g c in
-    subst (λ (r : Right). IsRightOf meaning b.key.room w (record r { waits = r.waits + 1 }))
+    subst (λ (r : Right). IsRightOf meaning b.setup.capacity w (record r { waits = r.waits + 1 }))
     (sym c.loop-head.invariant.right)
-    (right_registered meaning b.key.room (hands c.args.seat.now) w c.args.right.now a.words a.more c.requires.fewer
+    (right_registered meaning b.setup.capacity (hands c.args.seat.now) w c.args.right.now a.words a.more
+    c.requires.fewer
     a.hands_are c.requires.right)
 
 pub returns-clause-its : goal.returns-clause-its
 returns-clause-its g c =
     let b = c.args.self.now in
-    let meaning = g.R.GoalRules.meaning b.key.rules in
+    let meaning = g.R.GoalRules.meaning b.setup.rules in
     let w = hands c.drop_wait.new.seat in
     let a = returns-clause-answer g c in
-    subst (λ (r : Right). IsRightOf meaning b.key.room w r) (sym c.loop-head.invariant.right)
-    (right_kept meaning b.key.room (hands c.args.seat.now) w c.args.right.now a.words a.more a.hands_are
+    subst (λ (r : Right). IsRightOf meaning b.setup.capacity w r) (sym c.loop-head.invariant.right)
+    (right_kept meaning b.setup.capacity (hands c.args.seat.now) w c.args.right.now a.words a.more a.hands_are
     c.requires.right)
 
 pub returns-then-found-head-clause-others : goal.returns-then-found-head-clause-others

@@ -7,10 +7,10 @@ use Rattle.goal_board.proofs.board.Board.wait_for.Given as goal
 abbrev pub invariant-loop-head : goal.invariant-loop-head
 invariant-loop-head g l = record {
   seat : IsInCall g.R.GoalRules.meaning l.self l.seat;
-  putting : IsPutting l.self.key.room (hands l.fn.seat) l.waiter l.child_at l.head (hands l.seat);
+  putting : IsPutting l.self.setup.capacity (hands l.fn.seat) l.waiter l.child_at l.head (hands l.seat);
   right : l.right ≡ l.fn.right;
 }
 
 -- each head that is found comes nearer to the most waiters that there can be, or is closed
 abbrev pub decreases-loop-head : goal.decreases-loop-head
-decreases-loop-head g l = 8 * l.self.key.room + 1 - l.head / 2 ^ 24
+decreases-loop-head g l = 8 * l.self.setup.capacity + 1 - l.head / 2 ^ 24

@@ -12,11 +12,12 @@ loop-name-init g c =
     let v = hands c.args.seat.now in
     record {
       seat = c.requires.seat;
-      named = c.first_name-name.ensures ∙ first_name_of b.key.room v.walk.waiters c.args.head b.sized.3 c.requires.named
+      named = c.first_name-name.ensures ∙ first_name_of b.setup.capacity v.walk.waiters c.args.head b.sized.3
+          c.requires.named
           c.requires.near;
       near = c.requires.near;
       few = let few = c.requires.few in omega arith;
-      woken = woken_begins b.key.room v;
+      woken = woken_begins b.setup.capacity v;
       hints = c.requires.hints;
     }
 

@@ -10,10 +10,10 @@ abbrev pub invariant-loop-name : goal.invariant-loop-name
 invariant-loop-name g l = record {
   seat : IsInCall g.R.GoalRules.meaning l.self l.seat;
   named : l.name ≡ first_of (hands l.seat).walk.waiters;
-  near : Each (λ q. q < 8 * l.self.key.room) (hands l.seat).walk.waiters;
-  few : l.woken.count + length (hands l.seat).walk.waiters ≤ 8 * l.self.key.room;
-  woken : HasWoken l.self.key.room (hands l.initial.seat) l.woken.count l.woken.one (hands l.seat);
-  hints : g.H.Hints.capacity l.hints ≡ l.self.key.room;
+  near : Each (λ q. q < 8 * l.self.setup.capacity) (hands l.seat).walk.waiters;
+  few : l.woken.count + length (hands l.seat).walk.waiters ≤ 8 * l.self.setup.capacity;
+  woken : HasWoken l.self.setup.capacity (hands l.initial.seat) l.woken.count l.woken.one (hands l.seat);
+  hints : g.H.Hints.capacity l.hints ≡ l.self.setup.capacity;
 }
 
 abbrev pub decreases-loop-name : goal.decreases-loop-name

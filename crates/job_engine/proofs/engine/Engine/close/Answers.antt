@@ -6,7 +6,8 @@ use Rattle.job_engine.specs.Searching.{query_of}
 use Rattle.job_engine.proofs.Closing.{closes_search}
 use Rattle.job_engine.proofs.engine.Engine.close.Goals as goal
 
-searched : (c : goal.After-outcome_of) → ClosesSearch (query_of c.args.self) c.args.self.room c.args.self.scheduler.root
+searched : (c : goal.After-outcome_of) → ClosesSearch (query_of c.args.self) c.args.self.cells
+    c.args.self.scheduler.root
     (hands c.args.worker.seat) c.in_ok-closed.closed
 searched c = closes_search c.args.self (hands c.args.worker.seat) c.in_ok-closed.closed
     c.requires.worker.its.root_shown.stands c.in_ok-closed.ensures

@@ -16,9 +16,9 @@ steps_in c =
     let v = hands c.args.worker.now.seat in
     let w = hands c.step.new.worker.seat in
     let n = c.args.worker.now.number in
-    subst (λ (r : Rules). Steps (rules_mean r) e.room e.scheduler.root n v c.step.result w) e.of_rules
-    (subst (λ (room : ℕ). Steps (rules_mean e.scheduler.board.key.rules) room e.scheduler.root n v c.step.result w)
-    e.same_room c.step.ensures.steps)
+    subst (λ (r : Rules). Steps (rules_mean r) e.cells e.scheduler.root n v c.step.result w) e.of_rules
+    (subst (λ (cells : ℕ). Steps (rules_mean e.scheduler.board.setup.rules) cells e.scheduler.root n v c.step.result w)
+    e.same_cells c.step.ensures.steps)
 
 pub returns-clause-steps : goal.returns-clause-steps
 returns-clause-steps c = steps_in c
@@ -28,8 +28,8 @@ returns-clause-alone c =
     let e = c.args.self.now in
     let v = hands c.args.worker.now.seat in
     let w = hands c.step.new.worker.seat in
-    subst (λ (r : Rules). StepsAlone (rules_mean r) e.room v c.step.result w) e.of_rules
-    (subst (λ (room : ℕ). StepsAlone (rules_mean e.scheduler.board.key.rules) room v c.step.result w) e.same_room
+    subst (λ (r : Rules). StepsAlone (rules_mean r) e.cells v c.step.result w) e.of_rules
+    (subst (λ (cells : ℕ). StepsAlone (rules_mean e.scheduler.board.setup.rules) cells v c.step.result w) e.same_cells
     c.step.ensures.alone)
 
 -- what was seen set stays so
@@ -39,10 +39,10 @@ returns-clause-full c full =
     let q = e.rules.query.now in
     let root = e.scheduler.root in
     let w = hands c.step.new.worker.seat in
-    let near = subst (λ (room : ℕ). root < room) e.same_room e.scheduler.near in
+    let near = subst (λ (cells : ℕ). root < cells) e.same_cells e.scheduler.near in
     let shown = subst (λ (r : Rules). ShowsGoal (rules_mean r) w.looks root e.scheduler.goal) e.of_rules
     c.step.ensures.worker.its.root_shown in
-    full_again q e.room root c.args.worker.now.number near (c.goals_ask_for_members.ensures.all q)
+    full_again q e.cells root c.args.worker.now.number near (c.goals_ask_for_members.ensures.all q)
     (hands c.args.worker.now.seat) w c.step.result full
     c.step.ensures.keeps.looks (subst (ShowsGoal (rules_mean e.rules) w.looks root) (e.same_goal ∙ e.its_root) shown)
     (steps_in c) (c.step.ensures.full full)

@@ -8,5 +8,6 @@ use Rattle.job_scheduler.proofs.scheduler.Scheduler.claim_between.Given as goal
 abbrev pub invariant-loop-at : goal.invariant-loop-at
 invariant-loop-at g l = IsWorkerOf g.R.GoalRules.meaning l.self.board l.self.root l.self.goal l.worker
     × (l.worker.number ≡ l.initial.worker.number)
-    × FindsAllBusy (g.R.GoalRules.meaning l.self.board.key.rules) l.self.board.key.room (hands l.initial.worker.seat)
+    × FindsAllBusy (g.R.GoalRules.meaning l.self.board.setup.rules) l.self.board.setup.capacity
+    (hands l.initial.worker.seat)
     l.from l.at (hands l.worker.seat)

@@ -10,5 +10,5 @@ invariant-loop g l = IsOfCrew g.R.GoalRules.meaning l.self.board l.self.root l.s
     × ((kept : List ℕ) × ((hands l.worker.seat).alone ≡ Some kept))
 
 abbrev pub decreases-loop : goal.decreases-loop
-decreases-loop g l = work_alone_left (g.R.GoalRules.meaning l.self.board.key.rules) l.self.board.key.room
+decreases-loop g l = work_alone_left (g.R.GoalRules.meaning l.self.board.setup.rules) l.self.board.setup.capacity
     (hands l.worker.seat).alone
