@@ -3,7 +3,7 @@ use Rattle.std.proofs.Common.{rules, ◌≡◌, ℕ, zero, suc, ◌+◌, ◌<◌
 use Rattle.std.proofs.Common.{slice_get, refl, sym, subst, ◌∙◌, arith, IsTrue, true, inl, inr, ◌↔◌}
 use Rattle.std.specs.List.{list_all, enumerate_from}
 use Rattle.std.specs.Option.{option_map_or}
-use Rattle.std.proofs.lemmas.Bool.{and_parts, leb-true, cond_both}
+use Rattle.std.proofs.lemmas.Bool.{and_parts, leb-true, cond_both, cases_lt}
 use Rattle.std.proofs.lemmas.Nat.{le_or_l, le_or_r}
 use Rattle.query_core.specs.Items.{has_own_lists}
 use Rattle.query_core.specs.Keys.{IsGroup, top_of, input_of, root_of}
@@ -14,7 +14,7 @@ use Rattle.query_core.specs.Expressions.{implements, access, children_by, index_
 use Rattle.query_core.specs.declared.expressions.Access.{Access}
 use Rattle.query_core.specs.declared.expressions.Access.TheVariants.{Direct, Index}
 use Rattle.query_core.proofs.Implementations.{children_taken, index_taken}
-use Rattle.query_core.specs.ByKind.{index_count}
+use Rattle.query_core.specs.Finding.{index_count}
 use Rattle.query_core.specs.declared.table.Item.{Item}
 use Rattle.query_core.specs.declared.table.QueryTable.{QueryTable}
 use Rattle.query_core.specs.declared.query.Query.{Query}
@@ -23,7 +23,6 @@ use Rattle.query_core.specs.declared.words.KeyParts.TheVariants as groups
 use Rattle.query_core.specs.declared.expressions.Logical.{Logical}
 use Rattle.query_core.specs.declared.expressions.Logical.TheVariants as logical
 use Rattle.query_core.specs.declared.expressions.Physical.{Physical}
-use Rattle.query_core.specs.declared.expressions.Physical.TheVariants as physical
 use Rattle.query_core.specs.declared.expressions.Operator.{Operator}
 use Rattle.query_core.specs.declared.expressions.Operator.TheVariants as operators
 use Rattle.query_core.specs.declared.expressions.Children.{Children}
@@ -61,14 +60,14 @@ table_one q t index (Some own) found = (
 pub index_there : (q : Query) (t index : ℕ) → (index < index_count q t) ↔ HasIndex q t index
 index_there q t index = table_one q t index (slice_get q.tables t) refl
 
--- so its indexes have numbers below 16
-pub index_few : (q : Query) (t index : ℕ) → HasIndex q t index → index < 16
-index_few q t index (table, found, within) =
-    omega (arith, table_few q.items 0 q.tables t table q.items_valid.lists found, within)
-
--- and there are at most 16
-pub count_few : (q : Query) (t index : ℕ) → index < index_count q t → index < 16
-count_few q t index below = index_few q t index ((index_there q t index).0 below)
+-- and at most 16
+pub count_few : (q : Query) (t : ℕ) → index_count q t ≤ 16
+count_few q t = elim (cases_lt 16 (index_count q t)) [
+  | inl more ↦
+      let (table, found, within) = (index_there q t 16).0 more in
+      absurd (omega (arith, table_few q.items 0 q.tables t table q.items_valid.lists found, within))
+  | inr few ↦ few
+]
 
 -- both parts of a set of the query's tables have their groups
 pub part_groups : (q : Query) (set a b : ℕ) → set < 2 ^ length q.tables → FallsInto q set a b → IsGroup q (top_of q a)
@@ -116,7 +115,8 @@ logical_groups q group (logical.Agg child) known shape = aggregate_child q group
 logical_groups q group (logical.Partial child) known (partial, same) = subst (IsGroup q) (sym same) (input_group q)
 
 -- those of a physical one are those of what it implements, or none
-taken_groups : (q : Query) (a : Access) (children : Children) → AreGroups q children → AreGroups q (children_by a children)
+taken_groups : (q : Query) (a : Access) (children : Children) → AreGroups q children
+    → AreGroups q (children_by a children)
 taken_groups q Direct children known = known
 taken_groups q (Index i) children known = refl
 
@@ -136,17 +136,18 @@ shape_groups q group (operators.Physical o) known shape = physical_groups q grou
 logical_index : (o : Logical) → (logical_fields o).index ≡ 0
 logical_index o = grind arith
 
--- the index that a physical one reads has a number below 16
-accessed_few : (q : Query) (group : KeyParts) (a : Access) → HasAccess q group a → index_by a < 16
-accessed_few q group Direct there = omega arith
-accessed_few q group (Index i) there = index_few q (table_in group) i there
+-- an index that is read is one of the table's, and else 0 stands for it
+accessed_below : (q : Query) (group : KeyParts) (a : Access) (limit : ℕ) → index_count q (table_in group) ≤ limit
+    → 0 < limit → HasAccess q group a → index_by a < limit
+accessed_below q group Direct limit all some there = some
+accessed_below q group (Index i) limit all some there =
+    omega (arith, (index_there q (table_in group) i).1 there, all)
 
-physical_index : (q : Query) (group : KeyParts) (o : Physical) → HasPhysical q group o → (physical_fields o).index < 16
-physical_index q group o shape = omega (arith, index_taken o, accessed_few q group (access o) shape.1)
-
-shape_index : (q : Query) (group : KeyParts) (o : Operator) → HasShape q group o → (fields_of o).index < 16
-shape_index q group (operators.Logical o) shape = omega (arith, logical_index o)
-shape_index q group (operators.Physical o) shape = physical_index q group o shape
+pub index_below : (q : Query) (group : KeyParts) (o : Operator) (limit : ℕ) → index_count q (table_in group) ≤ limit
+    → 0 < limit → HasShape q group o → (fields_of o).index < limit
+index_below q group (operators.Logical o) limit all some shape = omega (arith, logical_index o, some)
+index_below q group (operators.Physical o) limit all some shape =
+    omega (arith, index_taken o, accessed_below q group (access o) limit all some shape.1)
 
 -- each child is a group
 each_group : (q : Query) (children : Children) (group : KeyParts) → AreGroups q children → IsChild children group
@@ -173,7 +174,9 @@ child_known q e group candidate child =
 pub candidate_packed : (q : Query) (e : ExprParts) → IsCandidate q e → IsPacked e
 candidate_packed q e candidate = record {
   group = group_in_range q e.group candidate.known;
-  index = omega (arith, shape_index q e.group e.operator candidate.shape);
+  index =
+      let all = count_few q (table_in e.group) in
+      omega (arith, index_below q e.group e.operator 16 all (omega arith) candidate.shape);
   children = groups_in_range q (children_of e.operator)
       (shape_groups q e.group e.operator candidate.known candidate.shape);
 }

@@ -3,24 +3,23 @@ use Rattle.std.proofs.Common.{◌≡◌, ℕ, ◌+◌, ◌*◌, ◌^◌, ◌<◌
 use Rattle.std.proofs.lemmas.Bool.{cases_lt, false≢true}
 use Rattle.std.proofs.lemmas.Nat.{or_disjoint}
 use Rattle.query_core.specs.Keys.{key_number, top_of, tables_of}
-use Rattle.query_core.specs.Expressions.{children_of, fields_of, is_logical, left_number, right_number, logical_fields}
-use Rattle.query_core.specs.Expressions.{middle_field, physical_fields, word_of, MIDDLES, AreInRange, FallsInto}
-use Rattle.query_core.specs.Expressions.{HasLogical, HasPhysical, HasShape, IsJoin, IsPacked}
+use Rattle.query_core.specs.Expressions.{children_of, fields_of, is_logical, left_number, right_number}
+use Rattle.query_core.specs.Expressions.{middle_field, word_of, MIDDLES, AreInRange, FallsInto}
+use Rattle.query_core.specs.Expressions.{HasLogical, HasShape, IsJoin, IsPacked}
 use Rattle.query_core.specs.declared.query.Query.{Query}
 use Rattle.query_core.specs.declared.words.KeyParts.{KeyParts}
 use Rattle.query_core.specs.declared.words.KeyParts.TheVariants as groups
 use Rattle.query_core.specs.declared.expressions.Children.TheVariants.{Zero, One, Two}
 use Rattle.query_core.specs.declared.expressions.Logical.{Logical}
 use Rattle.query_core.specs.declared.expressions.Logical.TheVariants as logical
-use Rattle.query_core.specs.declared.expressions.Physical.{Physical}
-use Rattle.query_core.specs.declared.expressions.Physical.TheVariants as physical
 use Rattle.query_core.specs.declared.expressions.Operator.{Operator}
 use Rattle.query_core.specs.declared.expressions.Operator.TheVariants as operators
 use Rattle.query_core.specs.declared.expressions.ExprParts.{ExprParts}
 use Rattle.query_core.specs.Candidates.{MiddlesRise, LogicalComeFirst}
-use Rattle.query_core.specs.Expressions.{implements, access}
+use Rattle.query_core.specs.Expressions.{implements, IsJoinNumber}
+use Rattle.query_core.specs.declared.expressions.TheConstants.{FIRST_JOIN, AFTER_JOINS}
 use Rattle.query_core.specs.declared.expressions.Children.{Children}
-use Rattle.query_core.proofs.Implementations.{children_taken, last_of, comes_after, number_out, number_in, two_joins}
+use Rattle.query_core.proofs.Implementations.{last_of, comes_upto, comes_after, number_out, number_in, two_shape}
 use Rattle.query_core.proofs.CandidateLemmas.{candidate_packed}
 use Rattle.query_core.proofs.ExpressionLemmas.{operator_small, left_small, right_small}
 use Rattle.query_core.proofs.GroupLemmas.{key_one}
@@ -62,25 +61,7 @@ last_logical (groups.Join set) = 8
 last_logical groups.Partial = 15
 last_logical groups.Agg = 12
 
--- the numbers of a group's logical operators are up to that one
-abbrev EndsBy : KeyParts → ℕ → Type 0
-EndsBy group number = number ≤ last_logical group
-
-logical_ends : (q : Query) (group : KeyParts) (o : Logical) → HasLogical q group o
-    → EndsBy group (logical_fields o).number
-unfolding last_logical
-logical_ends q group logical.Get (t, is) = subst (λ (g : KeyParts). EndsBy g 1) (sym is) (omega arith)
-logical_ends q group (logical.Select child) (t, is, under) = subst (λ (g : KeyParts). EndsBy g 4) (sym is) (omega arith)
-logical_ends q group logical.NJoin (set, is) = subst (λ (g : KeyParts). EndsBy g 7) (sym is) (omega arith)
-logical_ends q group (logical.Join left right) (set, a, b, is, falls, left_is, right_is) =
-    subst (λ (g : KeyParts). EndsBy g 8) (sym is) (omega arith)
-logical_ends q group (logical.Agg child) (is, under) = subst (λ (g : KeyParts). EndsBy g 12) (sym is) (omega arith)
-logical_ends q group (logical.Partial child) (is, under) = subst (λ (g : KeyParts). EndsBy g 15) (sym is) (omega arith)
-
--- those of its physical ones come after it
-abbrev BeginsAfter : KeyParts → ℕ → Type 0
-BeginsAfter group number = last_logical group < number
-
+-- which is that of each logical operator that the group can have
 last_same : (q : Query) (group : KeyParts) (o : Logical) → HasLogical q group o → last_logical group ≡ last_of o
 unfolding last_logical last_of
 last_same q group logical.Get (t, is) = ap last_logical is
@@ -90,16 +71,18 @@ last_same q group (logical.Join left right) (set, a, b, is, falls, left_is, righ
 last_same q group (logical.Agg child) (is, under) = ap last_logical is
 last_same q group (logical.Partial child) (is, under) = ap last_logical is
 
-physical_begins : (q : Query) (group : KeyParts) (o : Physical) → HasPhysical q group o
-    → BeginsAfter group (physical_fields o).number
-physical_begins q group o shape =
-    omega (arith, last_same q group (implements group o) shape.0, comes_after group o)
-
+-- logical operators have numbers up to it, and physical ones come after those that they implement
 number_less : (q : Query) (group : KeyParts) (o p : Operator) → HasShape q group o → HasShape q group p
     → IsTrue (is_logical o) → (IsTrue (is_logical p) → ⊥)
     → (fields_of o).number < (fields_of p).number
 number_less q group (operators.Logical o) (operators.Physical p) shape other wanted made =
-    omega (arith, logical_ends q group o shape, physical_begins q group p other)
+    omega (
+      arith,
+      comes_upto o,
+      last_same q group o shape,
+      last_same q group (implements group p) other.0,
+      comes_after group p,
+    )
 number_less q group (operators.Logical o) (operators.Logical p) shape other wanted made = absurd (made refl)
 number_less q group (operators.Physical o) p shape other wanted made = absurd (false≢true wanted)
 
@@ -123,33 +106,23 @@ logical_first q e other known other_known same wanted made =
 -- the operator has no right child, or is a join of its children
 abbrev HasSides : Query → KeyParts → Operator → Type 0
 HasSides q group o =
-    ((right_number (children_of o) ≡ 0) × (((fields_of o).number < 8) ⊎ (11 < (fields_of o).number)))
+    ((right_number (children_of o) ≡ 0) × (((fields_of o).number < FIRST_JOIN) ⊎ (AFTER_JOINS ≤ (fields_of o).number)))
     ⊎ ((left right : KeyParts) × IsJoin q group left right × (children_of o ≡ Two left right)
-    × (8 ≤ (fields_of o).number) × ((fields_of o).number ≤ 11))
+    × IsJoinNumber (fields_of o).number)
 
--- a physical operator has a right child only where it implements a join
-physical_sides : (q : Query) (group : KeyParts) (o : Physical) (c : Children) → (physical_fields o).children ≡ c
-    → HasPhysical q group o → HasSides q group (operators.Physical o)
-physical_sides q group o Zero children shape =
-    let none : right_number (physical_fields o).children ≡ 0 = ap right_number children in
+sides_of : (q : Query) (group : KeyParts) (o : Operator) (c : Children) → children_of o ≡ c → HasShape q group o
+    → HasSides q group o
+sides_of q group o Zero is shape =
+    let none : right_number (children_of o) ≡ 0 = ap right_number is in
     inl (none, number_out o none)
-physical_sides q group o (One child) children shape =
-    let none : right_number (physical_fields o).children ≡ 0 = ap right_number children in
+sides_of q group o (One child) is shape =
+    let none : right_number (children_of o) ≡ 0 = ap right_number is in
     inl (none, number_out o none)
-physical_sides q group o (Two left right) children shape =
-    let joins = two_joins (implements group o) (access o) left right (sym (children_taken group o) ∙ children) in
-    let within = number_in o left right children in
-    inr (left, right, subst (HasLogical q group) joins shape.0, children, within.0, within.1)
+sides_of q group o (Two left right) is shape =
+    inr (left, right, two_shape q group o left right is shape, is, number_in o left right is)
 
 has_sides : (q : Query) (group : KeyParts) (o : Operator) → HasShape q group o → HasSides q group o
-has_sides q group (operators.Logical logical.Get) shape = inl (refl, inl (omega arith))
-has_sides q group (operators.Logical (logical.Select child)) shape = inl (refl, inl (omega arith))
-has_sides q group (operators.Logical logical.NJoin) shape = inl (refl, inl (omega arith))
-has_sides q group (operators.Logical (logical.Join left right)) shape =
-    inr (left, right, shape, refl, omega arith, omega arith)
-has_sides q group (operators.Logical (logical.Agg child)) shape = inl (refl, inr (omega arith))
-has_sides q group (operators.Logical (logical.Partial child)) shape = inl (refl, inr (omega arith))
-has_sides q group (operators.Physical o) shape = physical_sides q group o (physical_fields o).children refl shape
+has_sides q group o shape = sides_of q group o (children_of o) refl shape
 
 -- of a set and the one side, the other side
 side_is : (q : Query) (set a b : ℕ) → FallsInto q set a b → a + b ≡ set
@@ -173,12 +146,12 @@ module _ (q : Query) where
       → left_number (children_of o) ≡ left_number (children_of p)
       → right_number (children_of o) ≡ right_number (children_of p)
   rights_one group o p (inl (none, out)) (inl (other_none, other_out)) known other numbers lefts = none ∙ sym other_none
-  rights_one group o p (inl (none, out)) (inr (left, right, join, two, from, upto)) known other numbers lefts =
+  rights_one group o p (inl (none, out)) (inr (left, right, join, two, (from, upto))) known other numbers lefts =
       absurd (omega (arith, out, from, upto, numbers))
-  rights_one group o p (inr (left, right, join, two, from, upto)) (inl (none, out)) known other numbers lefts =
+  rights_one group o p (inr (left, right, join, two, (from, upto))) (inl (none, out)) known other numbers lefts =
       absurd (omega (arith, out, from, upto, numbers))
-  rights_one group o p (inr (left, right, join, two, from, upto))
-      (inr (other_left, other_right, other_join, other_two, other_from, other_upto)) known other numbers lefts =
+  rights_one group o p (inr (left, right, join, two, (from, upto)))
+      (inr (other_left, other_right, other_join, other_two, (other_from, other_upto))) known other numbers lefts =
       let in_range : AreInRange (Two left right) = subst AreInRange two known in
       let other_in_range : AreInRange (Two other_left other_right) = subst AreInRange other_two other in
       let left_keys : key_number left ≡ key_number other_left =

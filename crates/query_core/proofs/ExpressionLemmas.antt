@@ -1,12 +1,15 @@
 -- Laws of group expressions and their words.
-use Rattle.std.proofs.Common.{◌≡◌, ℕ, ◌*◌, ◌/◌, ◌%◌, ◌≤◌, ◌<◌, ◌^◌, refl, ap, sym, ◌∙◌, ◌↔◌, arith}
+use Rattle.std.proofs.Common.{◌≡◌, ℕ, ◌*◌, ◌/◌, ◌%◌, ◌-◌, ◌≤◌, ◌<◌, ◌^◌, refl, ap, ◌∙◌, ◌↔◌, arith, inl, inr}
+use Rattle.std.proofs.lemmas.Bool.{cases_eq}
 use Rattle.query_core.specs.Keys.{key_number, IsInRange}
-use Rattle.query_core.specs.Expressions.{expr_of, fields, key_field, logical_fields, physical_fields, fields_of}
+use Rattle.query_core.specs.Expressions.{expr_of, fields, key_field, fields_of}
 use Rattle.query_core.specs.Expressions.{left_number, right_number, packed, word_of, AreInRange, HasWord, IsPacked}
+use Rattle.query_core.specs.Expressions.{IsJoinNumber}
+use Rattle.query_core.specs.Finding.{number_of, index_of}
+use Rattle.query_core.specs.declared.expressions.TheConstants.{OPERATORS}
 use Rattle.query_core.specs.Goals.{FitsExpr}
 use Rattle.query_core.specs.declared.keys.TheConstants.{KEYS}
 use Rattle.query_core.specs.declared.words.KeyParts.{KeyParts}
-use Rattle.query_core.specs.declared.expressions.Logical.{Logical}
 use Rattle.query_core.specs.declared.expressions.Logical.TheVariants as logical
 use Rattle.query_core.specs.declared.expressions.Physical.{Physical}
 use Rattle.query_core.specs.declared.expressions.Physical.TheVariants as physical
@@ -22,6 +25,9 @@ use Rattle.query_core.proofs.GroupLemmas.{key_one}
 -- operators have numbers below 32
 pub operator_small : (o : Operator) → (fields_of o).number < 32
 operator_small o = grind arith
+
+pub operator_below : (o : Operator) → (fields_of o).number < OPERATORS
+operator_below o = grind arith
 
 -- keys have numbers below the bound of keys
 pub key_small : (g : KeyParts) → IsInRange g → key_number g < KEYS
@@ -57,11 +63,11 @@ record AreSame (k : ℕ) (f : Fields) (k2 : ℕ) (f2 : Fields) : Type 0 where
   right : right_number f.children ≡ right_number f2.children
 
 -- each of the fields fits its place
-record AreSmall (f : Fields) : Type 0 where
-  number : f.number < 32
-  index : f.index < 32
-  left : left_number f.children < 2 ^ 13
-  right : right_number f.children < 2 ^ 13
+pub record AreSmall (f : Fields) : Type 0 where
+  pub number : f.number < 32
+  pub index : f.index < 32
+  pub left : left_number f.children < 2 ^ 13
+  pub right : right_number f.children < 2 ^ 13
 
 -- a word has one key and one list of fields
 fields_one : (k : ℕ) (f : Fields) (k2 : ℕ) (f2 : Fields) → AreSmall f → AreSmall f2 → packed k f ≡ packed k2 f2
@@ -75,7 +81,7 @@ fields_one k f k2 f2 small small2 same = record {
 }
 
 -- the fields of an expression whose parts fit
-fields_small : (e : ExprParts) → IsPacked e → AreSmall (fields_of e.operator)
+pub fields_small : (e : ExprParts) → IsPacked e → AreSmall (fields_of e.operator)
 fields_small e in_e = record {
   number = operator_small e.operator;
   index = in_e.index;
@@ -84,45 +90,30 @@ fields_small e in_e = record {
 }
 
 -- fields with the same values are the same
-fields_same : (f g : Fields) → f.number ≡ g.number → f.index ≡ g.index → f.children ≡ g.children → f ≡ g
+pub fields_same : (f g : Fields) → f.number ≡ g.number → f.index ≡ g.index → f.children ≡ g.children → f ≡ g
 fields_same f g number index children =
     ap (λ x. fields x f.index f.children) number ∙ ap (λ x. fields g.number x f.children) index
     ∙ ap (λ x. fields g.number g.index x) children
 
--- logical operators have their own fields
-logical_one : (o p : Logical) → logical_fields o ≡ logical_fields p → o ≡ p
-logical_one logical.Get logical.Get same = refl
-logical_one (logical.Select a) (logical.Select b) same = cc (ap (λ f. f.children) same)
-logical_one logical.NJoin logical.NJoin same = refl
-logical_one (logical.Join a b) (logical.Join x y) same = cc (ap (λ f. f.children) same)
-logical_one (logical.Agg a) (logical.Agg b) same = cc (ap (λ f. f.children) same)
-logical_one (logical.Partial a) (logical.Partial b) same = cc (ap (λ f. f.children) same)
-logical_one o p same = absurd (omega (arith, ap (λ f. f.number) same))
-
--- physical operators have their own fields
-physical_one : (o p : Physical) → physical_fields o ≡ physical_fields p → o ≡ p
-physical_one physical.Scan physical.Scan same = refl
-physical_one (physical.IndexScan i) (physical.IndexScan j) same = cc (ap (λ f. f.index) same)
-physical_one (physical.Filter a) (physical.Filter b) same = cc (ap (λ f. f.children) same)
-physical_one (physical.IndexSeek i) (physical.IndexSeek j) same = cc (ap (λ f. f.index) same)
-physical_one (physical.HashJoin a b) (physical.HashJoin x y) same = cc (ap (λ f. f.children) same)
-physical_one (physical.MergeJoin a b) (physical.MergeJoin x y) same = cc (ap (λ f. f.children) same)
-physical_one (physical.LoopJoin a b) (physical.LoopJoin x y) same = cc (ap (λ f. f.children) same)
-physical_one (physical.HashAgg a) (physical.HashAgg b) same = cc (ap (λ f. f.children) same)
-physical_one (physical.StreamAgg a) (physical.StreamAgg b) same = cc (ap (λ f. f.children) same)
-physical_one (physical.PartialAgg a) (physical.PartialAgg b) same = cc (ap (λ f. f.children) same)
-physical_one o p same = absurd (omega (arith, ap (λ f. f.number) same))
-
--- and no number is that of a logical and a physical one
-apart : (o : Logical) (p : Physical) → (logical_fields o).number ≡ (physical_fields p).number → ⊥
-apart o p same = grind arith
-
 -- an operator has its own fields
-operator_one : (o p : Operator) → fields_of o ≡ fields_of p → o ≡ p
-operator_one (operators.Logical o) (operators.Logical p) same = ap operators.Logical (logical_one o p same)
-operator_one (operators.Logical o) (operators.Physical p) same = absurd (apart o p (ap (λ f. f.number) same))
-operator_one (operators.Physical o) (operators.Logical p) same = absurd (apart p o (ap (λ f. f.number) (sym same)))
-operator_one (operators.Physical o) (operators.Physical p) same = ap operators.Physical (physical_one o p same)
+pub operator_one : (o p : Operator) → fields_of o ≡ fields_of p → o ≡ p
+operator_one o p same = grind (arith, ap (λ f. f.number) same, ap (λ f. f.index) same, ap (λ f. f.children) same)
+
+-- each number of a join is that of an operator over any two groups
+pub join_there : (number : ℕ) (left right : KeyParts) → IsJoinNumber number
+    → (o : Operator) × (fields_of o ≡ fields number 0 (Two left right))
+join_there number left right (from, upto) = elim (cases_eq number 8) [
+  | inl one ↦ rw one (operators.Logical (logical.Join left right), refl)
+  | inr more ↦ elim (cases_eq number 9) [
+    | inl one ↦ rw one (operators.Physical (physical.HashJoin left right), refl)
+    | inr most ↦ elim (cases_eq number 10) [
+      | inl one ↦ rw one (operators.Physical (physical.MergeJoin left right), refl)
+      | inr last ↦
+          let one : number ≡ 11 = omega (arith, from, upto, more, most, last) in
+          rw one (operators.Physical (physical.LoopJoin left right), refl)
+    ]
+  ]
+]
 
 -- a physical expression is known by its parts
 pub expr_of_one : (e f : PhysicalExpr) → expr_of e ≡ expr_of f → e ≡ f
@@ -186,3 +177,24 @@ word_some e = let some = operator_some e.operator in omega arith
 pub word_ordered : (e f : ExprParts) → IsPacked e → IsPacked f → key_number e.group < key_number f.group
     → word_of e < word_of f
 word_ordered e f in_e in_f less = let small = fields_small e in_e in omega arith
+
+-- in a group words stand in the order of their operators' numbers
+pub number_ordered : (e f : ExprParts) → IsPacked e → e.group ≡ f.group → number_of e < number_of f
+    → word_of e < word_of f
+number_ordered e f in_e same less =
+    let small = fields_small e in_e in
+    let key : key_number e.group ≡ key_number f.group = ap key_number same in
+    omega arith
+
+-- those of one number stand in the order of their indexes
+pub index_ordered : (e f : ExprParts) → IsPacked e → e.group ≡ f.group → number_of e ≡ number_of f
+    → index_of e < index_of f → word_of e < word_of f
+index_ordered e f in_e same number less =
+    let small = fields_small e in_e in
+    let key : key_number e.group ≡ key_number f.group = ap key_number same in
+    omega arith
+
+-- an operator has a word below the bound where the bound is so far from the group's words that others come first
+pub number_below : (e : ExprParts) (bound key : ℕ) → IsPacked e → key ≡ key_number e.group
+    → number_of e < (bound - key * 2 ^ 36) / 2 ^ 31 → word_of e < bound
+number_below e bound key in_e is less = let small = fields_small e in_e in omega arith

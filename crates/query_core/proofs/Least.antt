@@ -1,19 +1,12 @@
 -- Laws of the least word of a kind of expressions.
-use Rattle.std.proofs.Common.{rules, ◌≡◌, ℕ, ◌+◌, ◌<◌, ◌≤◌, ◌^◌, Option, None, Some, refl, ap, sym, subst, ◌∙◌, arith}
+use Rattle.std.proofs.Common.{◌≡◌, ℕ, ◌+◌, ◌<◌, ◌≤◌, Option, None, Some, sym, subst, arith}
 use Rattle.std.proofs.Common.{◌⊎◌, inl, inr}
 use Rattle.std.specs.Prelude.{nat_lt}
-use Rattle.std.proofs.lemmas.Bool.{cond_both, cases_lt, ltb-true, ltb-false}
-use Rattle.query_core.specs.Keys.{IsInRange}
-use Rattle.query_core.specs.Expressions.{word_of, IsPacked}
-use Rattle.query_core.specs.ByKind.{expr, read_by, aggregate_by, IsLeastFrom, FindsFrom, sooner_of}
+use Rattle.std.proofs.lemmas.Bool.{cond_both, cases_lt, cases_eq, ltb-true, ltb-false}
+use Rattle.query_core.specs.Expressions.{word_of}
+use Rattle.query_core.specs.Finding.{IsAt, IsBefore, IsLeastFrom, FindsFrom, sooner_of}
 use Rattle.query_core.specs.declared.words.Expr.{Expr}
-use Rattle.query_core.specs.declared.words.KeyParts.{KeyParts}
-use Rattle.query_core.specs.declared.words.KeyParts.TheVariants as groups
 use Rattle.query_core.specs.declared.expressions.ExprParts.{ExprParts}
-use Rattle.query_core.specs.declared.kinds.IndexKind.{IndexKind}
-use Rattle.query_core.specs.declared.kinds.IndexKind.TheVariants as indexes
-use Rattle.query_core.specs.declared.kinds.AggKind.{AggKind}
-use Rattle.query_core.specs.declared.kinds.AggKind.TheVariants as aggregations
 use Rattle.query_core.proofs.GroupLemmas.{group_in_range}
 
 -- the same kind in other words
@@ -83,48 +76,52 @@ pub sooner_is : (S T : ExprParts → Type 0) (bound : ℕ) (a b found : Option E
 sooner_is S T bound a b found is first second =
     subst (FindsFrom (λ e. S e ⊎ T e) bound) (sym is) (sooner_finds S T bound a b first second)
 
--- the group is read from an index of a number below the limit
-abbrev pub IsReadBelow : KeyParts → IndexKind → ℕ → ExprParts → Type 0
-IsReadBelow group kind limit e = (index : ℕ) × (index < limit) × (e ≡ expr group (read_by kind index))
+-- ---- places, one after the other
 
--- or from the one at the limit
-pub read_more : (group : KeyParts) (kind : IndexKind) (bound limit : ℕ) (before this : Option Expr)
-    → FindsFrom (IsReadBelow group kind limit) bound before
-    → FindsFrom (λ e. e ≡ expr group (read_by kind limit)) bound this
-    → FindsFrom (IsReadBelow group kind (limit + 1)) bound (sooner_of before this)
-read_more group kind bound limit before this first second =
-    let Last : ExprParts → Type 0 = λ e. e ≡ expr group (read_by kind limit) in
-    finds_as (λ e. IsReadBelow group kind limit e ⊎ Last e) (IsReadBelow group kind (limit + 1)) bound
-    (sooner_of before this)
-    (λ e kinds. elim kinds [
-      | inl (index, below, same) ↦ (index, omega (arith, below), same)
-      | inr same ↦
-          (limit, omega arith, same)
-    ])
-    (λ e (index, below, same). elim (cases_lt index limit) [
-      | inl less ↦ inl (index, less, same)
-      | inr more ↦
-          let at : index ≡ limit = omega (arith, below, more) in
-          inr (same ∙ ap (λ i. expr group (read_by kind i)) at)
-    ])
-    (sooner_finds (IsReadBelow group kind limit) Last bound before this first second)
+module _ (Kind : ExprParts → Type 0) (place_of : ExprParts → ℕ) (bound : ℕ) where
+  -- nothing stands before the first place
+  pub none_yet : FindsFrom (IsBefore Kind place_of 0) bound None
+  none_yet e (kind, less) above = omega (arith, less)
 
--- the parts of such a reading fit a word
-pub read_packed : (group : KeyParts) (kind : IndexKind) (index : ℕ) → IsInRange group → index < 16
-    → IsPacked (expr group (read_by kind index))
-read_packed group indexes.Scan index in_range few =
-    record { group = in_range; index = omega (arith, few); children = refl }
-read_packed group indexes.Seek index in_range few =
-    record { group = in_range; index = omega (arith, few); children = refl }
+  -- those at a place join those before it
+  pub finds_more : (place : ℕ) (before this found : Option Expr) → found ≡ sooner_of before this
+      → FindsFrom (IsBefore Kind place_of place) bound before → FindsFrom (IsAt Kind place_of place) bound this
+      → FindsFrom (IsBefore Kind place_of (place + 1)) bound found
+  finds_more place before this found is first second =
+      finds_as (λ e. IsBefore Kind place_of place e ⊎ IsAt Kind place_of place e)
+      (IsBefore Kind place_of (place + 1)) bound found
+      (λ e both. elim both [
+        | inl (kind, less) ↦ (kind, omega (arith, less))
+        | inr (kind, same) ↦ (kind, omega (arith, same))
+      ])
+      (λ e (kind, less). elim (cases_lt (place_of e) place) [
+        | inl lesser ↦ inl (kind, lesser)
+        | inr more ↦ inr (kind, omega (arith, less, more))
+      ])
+      (sooner_is (IsBefore Kind place_of place) (IsAt Kind place_of place) bound before this found is first second)
 
--- and those of an aggregation
-pub aggregate_packed : (kind : AggKind) (child : KeyParts) → IsInRange child
-    → IsPacked (expr groups.Agg (aggregate_by kind child))
-aggregate_packed aggregations.Logical child in_range =
-    record { group = refl; index = omega arith; children = in_range }
-aggregate_packed aggregations.Hash child in_range =
-    record { group = refl; index = omega arith; children = in_range }
-aggregate_packed aggregations.Stream child in_range =
-    record { group = refl; index = omega arith; children = in_range }
+  -- where all stand before a place, those before it are all
+  pub finds_all : (place : ℕ) (found : Option Expr) → ((e : ExprParts) → Kind e → place_of e < place)
+      → FindsFrom (IsBefore Kind place_of place) bound found → FindsFrom Kind bound found
+  finds_all place found all =
+      finds_as (IsBefore Kind place_of place) Kind bound found (λ e (kind, less). kind) (λ e kind. (kind, all e kind))
+
+  -- where words ascend with places, the least of the first place that has any is the least of all
+  pub finds_first : ((e f : ExprParts) → Kind e → Kind f → place_of e < place_of f → word_of e < word_of f)
+      → (place : ℕ) (found : Expr) → FindsFrom (IsBefore Kind place_of place) bound None
+      → IsLeastFrom (IsAt Kind place_of place) bound found.0 → IsLeastFrom Kind bound found.0
+  finds_first rise place found before finds =
+      let (first, (first_kind, at), word) = finds.there in
+      record {
+        there = (first, first_kind, word);
+        from = finds.from;
+        least = λ e kind above. elim (cases_lt (place_of e) place) [
+          | inl lesser ↦ absurd (before e (kind, lesser) above)
+          | inr more ↦ elim (cases_eq (place_of e) place) [
+            | inl same ↦ finds.least e (kind, same) above
+            | inr differs ↦ omega (arith, rise first e first_kind kind (omega (arith, at, more, differs)), word)
+          ]
+        ];
+      }
 
 pub ruleset packing = (arith, group_in_range)

@@ -9,8 +9,8 @@ pub mod Implementations
 pub mod CandidateLemmas
 pub mod Splitting
 pub mod Least
+pub mod Finding
 pub mod Joins
-pub mod GroupKinds
 pub mod Unions
 pub mod Apart
 pub mod GoalLemmas

@@ -1,6 +1,6 @@
 -- Group expressions: their words, those that a group can hold, and the one with which a group begins.
 use Rattle.std.specs.Prelude.{ℕ, Bool, true, false, Option, None, ◌≡◌, ◌⊎◌, ◌<◌, ◌+◌, ◌*◌, ◌/◌, ◌%◌, ◌^◌, length, ⊤}
-use Rattle.std.specs.Prelude.{slice_get, Some, IsTrue, bit_or, bit_and}
+use Rattle.std.specs.Prelude.{◌≤◌, slice_get, Some, IsTrue, bit_or, bit_and}
 use Rattle.query_core.specs.Connected.{IsConnected}
 use Rattle.query_core.specs.Keys.{key_number, IsInRange, IsGroup, top_of, input_of}
 use Rattle.query_core.specs.declared.table.QueryTable.{QueryTable}
@@ -19,6 +19,7 @@ use Rattle.query_core.specs.declared.expressions.Fields.{Fields}
 use Rattle.query_core.specs.declared.expressions.Access.{Access}
 use Rattle.query_core.specs.declared.expressions.Access.TheVariants.{Direct, Index}
 use Rattle.query_core.specs.declared.expressions.PhysicalExpr.{PhysicalExpr}
+use Rattle.query_core.specs.declared.expressions.TheConstants.{FIRST_JOIN, AFTER_JOINS}
 use Rattle.query_core.specs.declared.expressions.ExprParts.{ExprParts}
 
 -- ---- words
@@ -57,6 +58,10 @@ fields_of (operators.Physical o) = physical_fields o
 -- the groups that an operator stands on
 abbrev pub children_of : Operator → Children
 children_of o = (fields_of o).children
+
+-- operators that stand on two groups have these numbers
+abbrev pub IsJoinNumber : ℕ → Type 0
+IsJoinNumber number = (FIRST_JOIN ≤ number) × (number < AFTER_JOINS)
 
 -- the groups that a physical operator stands on
 abbrev pub physical_children : Physical → Children
@@ -251,6 +256,15 @@ HasPhysical q group o = HasLogical q group (implements group o) × HasAccess q g
 abbrev pub HasShape : Query → KeyParts → Operator → Type 0
 HasShape q group (operators.Logical o) = HasLogical q group o
 HasShape q group (operators.Physical o) = HasPhysical q group o
+
+-- the groups on which an operator of this group may stand
+abbrev pub IsChildrenOf : Query → KeyParts → Children → Type 0
+IsChildrenOf q (groups.Get t) c = c ≡ Zero
+IsChildrenOf q (groups.Filter t) c = (c ≡ Zero) ⊎ (c ≡ One (groups.Get t))
+IsChildrenOf q (groups.Join set) c =
+    (c ≡ Zero) ⊎ ((a b : ℕ) × FallsInto q set a b × (c ≡ Two (top_of q a) (top_of q b)))
+IsChildrenOf q groups.Partial c = c ≡ One (input_of q)
+IsChildrenOf q groups.Agg c = (c ≡ One (input_of q)) ⊎ (c ≡ One groups.Partial)
 
 -- an expression that a group of the query can hold
 pub record IsCandidate (q : Query) (e : ExprParts) : Type 0 where

@@ -13,5 +13,5 @@ pub mod Keys
 pub mod Expressions
 pub mod Goals
 pub mod Candidates
-pub mod ByKind
+pub mod Finding
 pub mod Crossing

@@ -9,7 +9,8 @@ use Rattle.query_core.specs.declared.table.QueryTable.{QueryTable}
 abbrev pub is_placed_once : QueryTable → Bool
 is_placed_once table = not (table.replicated && is_some table.hashed)
 
--- 1 to 10 tables, each of at most 10^12 rows and placed in one way, under aliases that have the form of a name and differ
+-- 1 to 10 tables, each of at most 10^12 rows and placed in one way, under aliases that have the form of a name and
+-- differ
 pub record AreTables (tables : List QueryTable) : Type 0 where
   pub some : 1 ≤ length tables
   pub few : length tables ≤ 10

@@ -8,7 +8,9 @@ ghost use Rattle.query_core.specs.declared.words.KeyParts.{KeyParts};
 ghost use Rattle.query_core.specs.Connected.{IsConnected};
 ghost use Rattle.query_core.specs.Keys.{key_number, IsInRange, IsGroup, IsKey, Names, top_of, input_of, root_of};
 ghost use Rattle.query_core.specs.Candidates.{LogicalComeFirst, MiddlesRise};
-ghost use Rattle.query_core.specs.Expressions.{word_of, children_of, middle_field, MIDDLES, origin_of, origin_operator, IsChild, IsPacked, IsCandidate, IsCandidateWord};
+ghost use Rattle.query_core.specs.Expressions.{word_of, children_of, middle_field, MIDDLES, origin_of};
+ghost use Rattle.query_core.specs.Expressions.{origin_operator};
+ghost use Rattle.query_core.specs.Expressions.{IsChild, IsChildrenOf, IsPacked, IsCandidate};
 
 use crate::expressions::{ExprParts, Logical};
 use crate::keys::KEYS;
@@ -50,6 +52,8 @@ pub fn candidates_are_known()
     ensures packed { (q : Query) (e : ExprParts) → IsCandidate q e → IsPacked e }
     ensures children { (q : Query) (e : ExprParts) (g : KeyParts) → IsCandidate q e →
         IsChild (children_of e.operator) g → IsGroup q g }
+    ensures by_group { (q : Query) (e : ExprParts) → IsCandidate q e →
+        IsChildrenOf q e.group (children_of e.operator) }
     ensures origins { (q : Query) (g : KeyParts) → IsGroup q g → IsCandidate q (origin_of q g) }
 {}
 

@@ -3,7 +3,8 @@ ghost use Rattle.std.specs.List.{list_all, list_any};
 ghost use Rattle.std.specs.Str.{bytes_eq};
 ghost use Rattle.query_core.specs.Differ.{all_differ, texts_differ};
 ghost use Rattle.query_core.specs.Histogram.{may_be_histogram};
-ghost use Rattle.query_core.specs.Catalog.{is_catalog_name as is_short_name, IsColumn, IsColumnList, IsPlacing, IsTable, IsCatalog};
+ghost use Rattle.query_core.specs.Catalog.{is_catalog_name as is_short_name, IsColumn, IsColumnList, IsPlacing};
+ghost use Rattle.query_core.specs.Catalog.{IsTable, IsCatalog};
 
 use crate::histogram::{Histogram, is_within};
 use orca_base::{List, Text, is_name};

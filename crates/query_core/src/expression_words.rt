@@ -7,7 +7,9 @@ ghost use Rattle.query_core.specs.declared.expressions.ExprParts.{ExprParts};
 ghost use Rattle.query_core.specs.declared.words.KeyParts.{KeyParts};
 ghost use Rattle.query_core.specs.Keys.{key_number, IsInRange};
 ghost use Rattle.query_core.specs.Goals.{FitsExpr};
-ghost use Rattle.query_core.specs.Expressions.{children_of, key_field, left_number, right_number, word_of, is_logical, left_key, right_key, AreInRange, IsPacked, HasWord, IsWord};
+ghost use Rattle.query_core.specs.Expressions.{children_of, key_field, left_number, right_number, word_of};
+ghost use Rattle.query_core.specs.Expressions.{is_logical, left_key, right_key, AreInRange, IsPacked, HasWord};
+ghost use Rattle.query_core.specs.Expressions.{IsWord};
 
 use crate::expressions::{Children, ExprParts, Fields, Operator, is_logical_number};
 use crate::keys::KEYS;

@@ -2,10 +2,21 @@
 #![tactic(auto)]
 
 ghost use Rattle.std.specs.Prelude.{◌≡◌, MatchOption};
-ghost use Rattle.query_core.specs.Expressions.{children_of, expr_of, fields_of, logical_fields, physical_children, physical_fields, is_logical as is_logical_operator};
-ghost use Rattle.query_core.specs.Expressions.{implements as implemented, access as access_of, unfiltered as group_unfiltered};
+ghost use Rattle.query_core.specs.Expressions.{children_of, expr_of, fields_of, logical_fields, physical_children};
+ghost use Rattle.query_core.specs.Expressions.{physical_fields, is_logical as is_logical_operator, IsJoinNumber};
+ghost use Rattle.query_core.specs.Expressions.{implements as implemented, access as access_of};
+ghost use Rattle.query_core.specs.Expressions.{unfiltered as group_unfiltered};
 
 use crate::words::KeyParts;
+
+/// Operators have numbers from 1 on, all below this one.
+pub const OPERATORS: u32 = 17;
+
+/// The operators that stand on two groups have the numbers from this one on.
+pub const FIRST_JOIN: u32 = 8;
+
+/// The numbers of those that stand on two groups end below this one.
+pub const AFTER_JOINS: u32 = 12;
 
 /// What is wanted of a group's rows.
 #[derive(Clone, Copy, PartialEq, Eq)]
@@ -177,6 +188,18 @@ impl Operator {
         ensures { result ≡ children_of self }
     {
         self.fields().children
+    }
+
+    /// The operator of this number that stands on the two groups.
+    pub fn on_two(number: u32, left: KeyParts, right: KeyParts) -> Operator
+        requires { IsJoinNumber number }
+        ensures { fields_of result ≡
+            record { number = number; index = 0; children = Children.Two left right } }
+    {
+        match Operator::of(Fields::new(number, 0, Children::Two(left, right))) {
+            Some(operator) => operator,
+            None => unreachable!(),
+        }
     }
 
     pub(crate) fn fields(self) -> Fields

@@ -3,7 +3,8 @@
 
 ghost use Rattle.std.specs.Prelude.{ℕ, ◌≡◌, ◌<◌, ◌≤◌, ◌+◌, ◌*◌, ◌^◌, ◌↔◌, IsTrue, MatchOption};
 ghost use Rattle.query_core.specs.declared.words.GoalParts.{GoalParts};
-ghost use Rattle.query_core.specs.Goals.{goal_bit, goal_fields, goal_number, has_goal_bit, kind_of, FitsCode, FitsExpr, FitsGoal, FitsKey, HasGoalWord};
+ghost use Rattle.query_core.specs.Goals.{goal_bit, goal_fields, goal_number, has_goal_bit, kind_of, FitsCode};
+ghost use Rattle.query_core.specs.Goals.{FitsExpr, FitsGoal, FitsKey, HasGoalWord};
 
 use crate::words::{Expr, Goal, GoalParts, Key};
 

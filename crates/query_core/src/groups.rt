@@ -4,7 +4,9 @@
 ghost use Rattle.std.specs.Prelude.{◌≡◌, ◌<◌, ◌^◌, IsTrue, ◌↔◌, length};
 ghost use Rattle.query_core.specs.Connected.{IsConnected, AreLinked};
 ghost use Rattle.query_core.specs.Items.{is_column_of as column_of};
-ghost use Rattle.query_core.specs.Keys.{is_own, has_own, lies_in, IsGroup, IsKey, Names, top_of, input_of, root_of, group_of_table, is_column_in, is_grouped_by, is_aggregate, key_number, has_item as holds_item};
+ghost use Rattle.query_core.specs.Keys.{is_own, has_own, lies_in, IsGroup, IsKey, Names, top_of, input_of};
+ghost use Rattle.query_core.specs.Keys.{root_of, group_of_table, is_column_in, is_grouped_by, is_aggregate};
+ghost use Rattle.query_core.specs.Keys.{key_number, has_item as holds_item};
 
 use crate::predicate::{Operand, Pred};
 use crate::query::Query;

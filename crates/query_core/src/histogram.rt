@@ -1,5 +1,6 @@
 ghost use Rattle.std.specs.Prelude.{◌≡◌, ◌↔◌, IfOk, IsTrue, int_le, int_lt};
-ghost use Rattle.query_core.specs.Histogram.{within, rows_fit, ends_rise, ends_rise_above, is_histogram, may_be_histogram};
+ghost use Rattle.query_core.specs.Histogram.{within, rows_fit, ends_rise, ends_rise_above, is_histogram};
+ghost use Rattle.query_core.specs.Histogram.{may_be_histogram};
 
 use orca_base::List;
 use std::alloc::{AllocError, Global};

@@ -3,7 +3,10 @@
 
 ghost use Rattle.std.specs.Prelude.{◌≡◌, ℕ, IsTrue, ◌↔◌};
 ghost use Rattle.query_core.specs.Keys.{IsInRange, top_of};
-ghost use Rattle.query_core.specs.Expressions.{children_of, logical_fields, physical_fields, AreInRange, HasIndex, HasLogical, HasPhysical, HasShape, IsAggregated, IsCandidate, IsCandidateWord, IsFiltered, IsJoin, IsPartial, FallsInto, IsPacked, HasAccess};
+ghost use Rattle.query_core.specs.Expressions.{children_of, logical_fields, physical_fields};
+ghost use Rattle.query_core.specs.Expressions.{AreInRange, FallsInto, HasAccess, HasIndex, HasLogical, HasPhysical};
+ghost use Rattle.query_core.specs.Expressions.{HasShape, IsAggregated, IsCandidate, IsCandidateWord, IsFiltered};
+ghost use Rattle.query_core.specs.Expressions.{IsJoin, IsPacked, IsPartial};
 ghost use Rattle.query_core.specs.Expressions.{table_in as table_of_group};
 
 use crate::expressions::{Access, ExprParts, Logical, Operator, Physical};
@@ -29,7 +32,7 @@ impl Query {
         self.has_group(expr.group) && self.has_shape(expr.group, expr.operator)
     }
 
-    fn has_shape(&self, group: KeyParts, operator: Operator) -> bool
+    pub(crate) fn has_shape(&self, group: KeyParts, operator: Operator) -> bool
         requires group { IsInRange group }
         requires children { AreInRange (children_of operator) }
         ensures { IsTrue result ↔ HasShape self.now group operator }

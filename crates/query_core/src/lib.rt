@@ -14,7 +14,6 @@ mod groups;
 mod histogram;
 mod holding;
 mod keys;
-mod kinds;
 mod links;
 mod next_candidate;
 mod options;
@@ -31,12 +30,13 @@ pub use ascending::count_below;
 pub use candidates::{candidates_are_in_order, candidates_are_known, groups_are_known};
 pub use catalog::{Catalog, ColumnInfo, Placing, TableInfo};
 pub use expression_words::expressions_are_one;
-pub use expressions::{Access, Children, ExprParts, Logical, Operator, Physical, PhysicalExpr};
+pub use expressions::{
+    AFTER_JOINS, Access, Children, ExprParts, FIRST_JOIN, Logical, Operator, Physical, PhysicalExpr,
+};
 pub use goal_words::goals_are_one;
 pub use histogram::{Bucket, Histogram};
 pub use holding::table_in;
 pub use keys::{FIRST_SET_KEY, KEYS, ONE_TABLE_KEYS};
-pub use kinds::JoinKind;
 pub use links::{links_are_one, links_of};
 pub use next_candidate::bound_after;
 pub use options::{Options, RootDist};

@@ -8,7 +8,10 @@ ghost use Rattle.query_core.specs.declared.predicate.Link.{Link};
 ghost use Rattle.query_core.specs.declared.predicate.Pred.{Pred};
 ghost use Rattle.query_core.specs.declared.table.Item.{Item};
 ghost use Rattle.query_core.specs.declared.table.QueryTable.{QueryTable};
-ghost use Rattle.query_core.specs.Links.{AreLinks, AddsTrueLinks, StartsComponent, JoinsComponents, link_of as link_by, predicate_links as links_by, right_table as table_right, table_of as table_at, link_between as link_over};
+ghost use Rattle.query_core.specs.Links.{AreLinks, AddsTrueLinks, StartsComponent, JoinsComponents};
+ghost use Rattle.query_core.specs.Links.{link_of as link_by, predicate_links as links_by};
+ghost use Rattle.query_core.specs.Links.{right_table as table_right, table_of as table_at};
+ghost use Rattle.query_core.specs.Links.{link_between as link_over};
 
 use crate::connected::reached;
 use crate::predicate::{Link, Operand, Pred};

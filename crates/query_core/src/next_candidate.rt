@@ -4,13 +4,15 @@
 ghost use Rattle.std.specs.Prelude.{◌≡◌, ℕ, ◌+◌, ◌<◌, ◌≤◌, ◌^◌, ◌↔◌, MatchOption};
 ghost use Rattle.query_core.specs.declared.expressions.ExprParts.{ExprParts};
 ghost use Rattle.query_core.specs.declared.words.KeyParts.{KeyParts};
-ghost use Rattle.query_core.specs.Keys.{key_number, IsInRange, IsGroup, IsKey, Names, input_of};
-ghost use Rattle.query_core.specs.Expressions.{word_of, IsPacked};
+ghost use Rattle.query_core.specs.Keys.{IsInRange, IsGroup, IsKey, Names};
+ghost use Rattle.query_core.specs.Expressions.{word_of, table_in as table_of_group, AreInRange, IsPacked};
 ghost use Rattle.query_core.specs.Candidates.{IsAfter, IsNext, IsLast};
-ghost use Rattle.query_core.specs.ByKind.{expr, join_by, index_count as index_count_of, sooner_of, IsRead, IsJoinBy, IsJoinAt, IsAggregateBy, IsOf, FindsFrom};
+ghost use Rattle.query_core.specs.Finding.{expr, index_count as index_count_of, sooner_of};
+ghost use Rattle.query_core.specs.Finding.{number_of, index_of, left_of};
+ghost use Rattle.query_core.specs.Finding.{FindsFrom, IsAt, IsHeldBy, IsJoined, IsMadeOf, IsOver};
 
-use crate::expressions::{ExprParts, Logical, Operator, Physical};
-use crate::kinds::{AggKind, IndexKind, JoinKind};
+use crate::expressions::{Children, ExprParts, Fields, OPERATORS, Operator};
+use crate::holding::table_in;
 use crate::query::Query;
 use crate::words::{Expr, Key, KeyParts};
 
@@ -24,96 +26,112 @@ impl Query {
         self.next_in(self.group(key), bound_after(after)?)
     }
 
+    // The next word of the group, over all children that its operators can have.
     fn next_in(&self, group: KeyParts, bound: u64) -> Option<Expr>
         requires { IsGroup self.now group }
-        ensures { FindsFrom (IsOf self.now group) bound result }
+        ensures { FindsFrom (IsHeldBy self.now group) bound result }
     {
         match group {
-            KeyParts::Get(table) => self.next_of_table(table, bound),
-            KeyParts::Filter(table) => self.next_of_filter(table, bound),
-            KeyParts::Join(set) => self.next_of_join(set, bound),
-            KeyParts::Partial => self.next_of_partial(bound),
-            KeyParts::Agg => self.next_of_aggregation(bound),
+            KeyParts::Get(_) => self.next_over(group, Children::Zero, bound),
+            KeyParts::Filter(table) => {
+                let alone = self.next_over(group, Children::Zero, bound);
+                let under = Children::One(KeyParts::Get(table));
+                sooner(alone, self.next_over(group, under, bound))
+            }
+            KeyParts::Join(set) => {
+                let alone = self.next_over(group, Children::Zero, bound);
+                sooner(alone, self.next_join(set, bound))
+            }
+            KeyParts::Partial => self.next_over(group, Children::One(self.input()), bound),
+            KeyParts::Agg => {
+                let whole = self.next_over(group, Children::One(self.input()), bound);
+                let parts = Children::One(KeyParts::Partial);
+                sooner(whole, self.next_over(group, parts, bound))
+            }
         }
     }
 
-    fn next_of_table(&self, table: u32, bound: u64) -> Option<Expr>
-        requires { IsGroup self.now (KeyParts.Get table) }
-        ensures { FindsFrom (IsOf self.now (KeyParts.Get table)) bound result }
-    {
-        let group = KeyParts::Get(table);
-        let get = word_from(bound, group, Operator::Logical(Logical::Get));
-        let scan = word_from(bound, group, Operator::Physical(Physical::Scan));
-        let read = self.next_read(table, group, IndexKind::Scan, bound);
-        sooner(get, sooner(scan, read))
-    }
-
-    fn next_of_filter(&self, table: u32, bound: u64) -> Option<Expr>
-        requires { IsGroup self.now (KeyParts.Filter table) }
-        ensures { FindsFrom (IsOf self.now (KeyParts.Filter table)) bound result }
-    {
-        let (group, child) = (KeyParts::Filter(table), KeyParts::Get(table));
-        let select = word_from(bound, group, Operator::Logical(Logical::Select(child)));
-        let filter = word_from(bound, group, Operator::Physical(Physical::Filter(child)));
-        let read = self.next_read(table, group, IndexKind::Seek, bound);
-        sooner(select, sooner(filter, read))
-    }
-
-    fn next_of_join(&self, set: u32, bound: u64) -> Option<Expr>
+    // The next word of a set of tables over two sides.
+    fn next_join(&self, set: u32, bound: u64) -> Option<Expr>
         requires { IsGroup self.now (KeyParts.Join set) }
-        ensures { FindsFrom (IsOf self.now (KeyParts.Join set)) bound result }
-    {
-        let many = word_from(
-            bound,
-            KeyParts::Join(set),
-            Operator::Logical(Logical::NJoin),
-        );
-        let join = self.next_join(set, JoinKind::Logical, bound);
-        let hash = self.next_join(set, JoinKind::Hash, bound);
-        let merge = self.next_join(set, JoinKind::Merge, bound);
-        let by_loop = self.next_join(set, JoinKind::Loop, bound);
-        sooner(many, sooner(sooner(join, hash), sooner(merge, by_loop)))
-    }
-
-    fn next_of_partial(&self, bound: u64) -> Option<Expr>
-        ensures { FindsFrom (IsOf self.now KeyParts.Partial) bound result }
-    {
-        let (group, child) = (KeyParts::Partial, self.input());
-        let partial = word_from(bound, group, Operator::Logical(Logical::Partial(child)));
-        let physical = word_from(
-            bound,
-            group,
-            Operator::Physical(Physical::PartialAgg(child)),
-        );
-        sooner(partial, physical)
-    }
-
-    fn next_of_aggregation(&self, bound: u64) -> Option<Expr>
-        ensures { FindsFrom (IsOf self.now KeyParts.Agg) bound result }
-    {
-        let aggregate = self.next_aggregate(AggKind::Logical, bound);
-        let hash = self.next_aggregate(AggKind::Hash, bound);
-        let stream = self.next_aggregate(AggKind::Stream, bound);
-        sooner(aggregate, sooner(hash, stream))
-    }
-
-    fn next_aggregate(&self, kind: AggKind, bound: u64) -> Option<Expr>
-        ensures { FindsFrom (IsAggregateBy self.now kind) bound result }
-    {
-        let whole = word_from(bound, KeyParts::Agg, kind.of(self.input()));
-        let parts = word_from(bound, KeyParts::Agg, kind.of(KeyParts::Partial));
-        sooner(whole, parts)
-    }
-
-    fn next_read(&self, table: u32, group: KeyParts, kind: IndexKind, bound: u64) -> Option<Expr>
-        requires { IsInRange group }
-        ensures { FindsFrom (IsRead self.now table group kind) bound result }
+        ensures { FindsFrom (IsJoined self.now set) bound result }
     {
         let mut next = None;
-        for index in 0..self.index_count(table) {
-            next = sooner(next, word_from(bound, group, kind.at(index as u32)));
+        for left in 0..2049 {
+            next = sooner(next, self.join_from(set, left, bound));
         }
         next
+    }
+
+    // The same where the left side has this number in the word.
+    fn join_from(&self, set: u32, left: u32, bound: u64) -> Option<Expr>
+        requires { IsGroup self.now (KeyParts.Join set) }
+        ensures { FindsFrom (IsAt (IsJoined self.now set) left_of left) bound result }
+    {
+        let a = self.left_side(left)?;
+        let b = self.right_side(set, a)?;
+        let sides = Children::Two(self.top_group(a), self.top_group(b));
+        self.next_over(KeyParts::Join(set), sides, bound)
+    }
+
+    // The next word of the group over these children: by the least number of an operator.
+    fn next_over(&self, group: KeyParts, children: Children, bound: u64) -> Option<Expr>
+        requires known { IsGroup self.now group }
+        requires in_range { AreInRange children }
+        ensures { FindsFrom (IsOver self.now group children) bound result }
+    {
+        for number in first_number(group, bound)..OPERATORS as u64 {
+            if let Some(next) = self.next_numbered(group, children, number as u32, bound) {
+                return Some(next);
+            }
+        }
+        None
+    }
+
+    // The same by the operator of this number: by the least index.
+    fn next_numbered(
+        &self,
+        group: KeyParts,
+        children: Children,
+        number: u32,
+        bound: u64,
+    ) -> Option<Expr>
+        requires known { IsGroup self.now group }
+        requires in_range { AreInRange children }
+        ensures { FindsFrom (IsAt (IsOver self.now group children) number_of number) bound result }
+    {
+        for index in 0..self.index_limit(table_in(group)) {
+            let fields = Fields::new(number, index as u32, children);
+            if let Some(next) = self.next_made(group, fields, bound) {
+                return Some(next);
+            }
+        }
+        None
+    }
+
+    // The word of the operator of these fields, where the group can have it and it isn't below the bound.
+    fn next_made(&self, group: KeyParts, fields: Fields, bound: u64) -> Option<Expr>
+        requires known { IsGroup self.now group }
+        requires index { fields.index < 32 }
+        requires in_range { AreInRange fields.children }
+        ensures { FindsFrom (IsMadeOf self.now group fields) bound result }
+    {
+        let operator = Operator::of(fields)?;
+        if self.has_shape(group, operator) {
+            word_from(bound, group, operator)
+        } else {
+            None
+        }
+    }
+
+    // The indexes by which an operator may read the table are below this number; so is 0, where it reads none.
+    fn index_limit(&self, table: u32) -> usize
+        ensures all { index_count_of self.now table ≤ result }
+        ensures some { 0 < result }
+        ensures few { result ≤ 16 }
+    {
+        let count = self.index_count(table);
+        if count == 0 { 1 } else { count }
     }
 
     // How many indexes the table has.
@@ -125,41 +143,16 @@ impl Query {
             None => 0,
         }
     }
-
-    fn next_join(&self, set: u32, kind: JoinKind, bound: u64) -> Option<Expr>
-        requires { IsInRange (KeyParts.Join set) }
-        ensures { FindsFrom (IsJoinBy self.now set kind) bound result }
-    {
-        for left in first_left(set, kind, bound)..2049 {
-            if let Some(next) = self.join_from(set, kind, left as u32, bound) {
-                return Some(next);
-            }
-        }
-        None
-    }
-
-    fn join_from(&self, set: u32, kind: JoinKind, left: u32, bound: u64) -> Option<Expr>
-        requires { IsInRange (KeyParts.Join set) }
-        ensures { FindsFrom (IsJoinAt self.now set kind left) bound result }
-    {
-        let a = self.left_side(left)?;
-        let b = self.right_side(set, a)?;
-        let operator = kind.of(self.top_group(a), self.top_group(b));
-        word_from(bound, KeyParts::Join(set), operator)
-    }
 }
 
-// The number of the first left child with which a join of the set may have a word from the bound on. A left child's
-// number is that of its key, and 1.
-fn first_left(set: u32, kind: JoinKind, bound: u64) -> u64
-    requires { IsInRange (KeyParts.Join set) }
-    ensures { (left right : KeyParts) → key_number left + 1 < result → IsInRange right →
-        word_of (expr (KeyParts.Join set) (join_by kind left right)) < bound }
+// The number of the first operator with which a word of the group may not be below the bound.
+fn first_number(group: KeyParts, bound: u64) -> u64
+    requires { IsInRange group }
+    ensures { (e : ExprParts) → IsPacked e → e.group ≡ group → number_of e < result →
+        word_of e < bound }
 {
-    let group = KeyParts::Join(set);
-    let operator = kind.of(KeyParts::Get(0), KeyParts::Get(0));
-    let least = Expr::make(ExprParts { group, operator }).0;
-    bound.saturating_sub(least) >> 13
+    let first = (Key::make(group).0 as u64) << 36;
+    bound.saturating_sub(first) >> 31
 }
 
 // The expression, if its word isn't below the bound.

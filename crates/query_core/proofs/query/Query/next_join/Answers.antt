@@ -1,25 +1,22 @@
 use Rattle.std.proofs.Common.{arith}
-use Rattle.query_core.specs.Keys.{top_of}
-use Rattle.query_core.proofs.Joins.{none_more, none_at_all, least_join, sides_in_range}
+use Rattle.query_core.specs.Finding.{left_of, IsJoined}
+use Rattle.query_core.specs.declared.words.KeyParts.TheVariants.{Join}
+use Rattle.query_core.proofs.GroupLemmas.{group_in_range}
+use Rattle.query_core.proofs.Joins.{left_few}
+use Rattle.query_core.proofs.Least.{none_yet, finds_more, finds_all}
 use Rattle.query_core.proofs.query.Query.next_join.Goals as goal
 
--- those with a lesser number lie below the bound
 pub loop-left-init : goal.loop-left-init
-loop-left-init c a b falls less =
-    let q = c.args.self.now in
-    c.first_left-left.ensures (top_of q a) (top_of q b) less
-    (sides_in_range q c.args.set c.requires c.args.kind a b falls).1
+loop-left-init c = none_yet (IsJoined c.args.self.now c.args.set) left_of c.args.bound
 
 pub loop-left-preserved : goal.loop-left-preserved
 loop-left-preserved c =
-    none_more c.args.self.now c.args.set c.requires c.args.kind c.args.bound c.loop-left.left c.loop-left.invariant
-    c.in_default.ensures
-
-pub returns-in-Some : goal.returns-in-Some
-returns-in-Some c =
-    least_join c.args.self.now c.args.set c.requires c.args.kind c.args.bound c.loop-left.left c.in-Some.next
-    c.loop-left.invariant c.in-Some.ensures
+    finds_more (IsJoined c.args.self.now c.args.set) left_of c.args.bound c.loop-left.left c.loop-left.next
+    c.join_from.result c.sooner-next.result c.sooner-next.ensures c.loop-left.invariant c.join_from.ensures
 
 pub returns : goal.returns
-returns c = none_at_all c.args.self.now c.args.set c.requires c.args.kind c.args.bound c.loop-left.left (omega arith)
-    c.loop-left.invariant
+returns c =
+    let q = c.args.self.now in
+    let set = c.args.set in
+    finds_all (IsJoined q set) left_of c.args.bound c.loop-left.left c.loop-left.next
+    (λ e joined. omega (arith, left_few q set (group_in_range q (Join set) c.requires) e joined)) c.loop-left.invariant
