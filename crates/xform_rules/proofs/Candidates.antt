@@ -4,7 +4,7 @@ use Rattle.std.specs.Prelude.{bit_or, IfSome}
 use Rattle.query_core.specs.Sets.{Has}
 use Rattle.query_core.specs.Connected.{IsConnected, AreLinked}
 use Rattle.query_core.specs.Keys.{IsGroup, top_of, tables_of}
-use Rattle.query_core.specs.Expressions.{table_in, unfiltered, HasIndex, HasLogical, HasPhysical, HasShape, FallsInto, IsCandidate}
+use Rattle.query_core.specs.Expressions.{HasLogical, HasPhysical, HasShape, FallsInto, IsCandidate}
 use Rattle.query_core.specs.declared.query.Query.{Query}
 use Rattle.query_core.specs.declared.words.KeyParts.{KeyParts}
 use Rattle.query_core.specs.declared.words.KeyParts.TheVariants as groups
@@ -14,18 +14,19 @@ use Rattle.query_core.specs.declared.expressions.Operator.{Operator}
 use Rattle.query_core.specs.declared.expressions.Operator.TheVariants as operators
 use Rattle.query_core.specs.declared.expressions.ExprParts.{ExprParts}
 use Rattle.xform_rules.specs.declared.rules.Rule.{Rule}
-use Rattle.xform_rules.specs.declared.rules.Rule.TheVariants as rules
+use Rattle.xform_rules.specs.declared.rules.Work.{Work}
+use Rattle.xform_rules.specs.declared.rules.Work.TheVariants.{Explores, Implements}
+use Rattle.xform_rules.specs.declared.rules.Exploration.{Exploration}
+use Rattle.xform_rules.specs.declared.rules.Exploration.TheVariants.{Expansion, Commutation, Association, Split}
 use Rattle.xform_rules.specs.Forms.{IsLogical, IsPhysical}
 use Rattle.xform_rules.specs.ExpandNAry.{Expands}
 use Rattle.xform_rules.specs.JoinCommute.{Commutes}
 use Rattle.xform_rules.specs.JoinAssociate.{JoinsIn, Associates}
 use Rattle.xform_rules.specs.SplitAgg.{SplitsGrouping}
-use Rattle.xform_rules.specs.GetRules.{Scans, ScansIndex}
-use Rattle.xform_rules.specs.SelectRules.{Filters, SeeksIndex}
-use Rattle.xform_rules.specs.JoinRules.{Hashes, Merges, Loops}
-use Rattle.xform_rules.specs.AggRules.{GroupsByHash, GroupsInOrder, GroupsPartly}
-use Rattle.xform_rules.specs.Results.{Gives, GivesWith, HasResult}
-use Rattle.xform_rules.proofs.Usable.{usable_there}
+use Rattle.xform_rules.specs.Implemented.{Makes}
+use Rattle.xform_rules.specs.Rules.{work_of}
+use Rattle.xform_rules.specs.Results.{Says, Gives, GivesByWork, GivesWith, HasResult}
+use Rattle.xform_rules.proofs.Making.{makes_held}
 
 -- how the two sides of joins go into one another
 pub record AreSides : Type 0 where
@@ -98,43 +99,12 @@ module _ (sides : AreSides) (q : Query) (group : KeyParts) (known : IsGroup q gr
   split : (to : Logical) → SplitsGrouping q from to → HasLogical q group to
   split to (is, made) = subst (HasLogical q group) (sym made) ((subst (HasLogical q group) is shape).0, inr refl)
 
-  scanned : (to : Physical) → Scans from to → HasPhysical q group to
-  scanned to (is, made) = subst (HasPhysical q group) (sym made) (subst (HasLogical q group) is shape, tt)
-
-  scanned_by_index : (n : ℕ) (to : Physical) → ScansIndex q group from n to → HasPhysical q group to
-  scanned_by_index n to ((t, is, is_group, index), made) = subst (HasPhysical q group) (sym made)
-      ((t, is_group), subst (λ g. HasIndex q (table_in g) n) (sym is_group) index)
-
-  filtered : (to : Physical) → Filters from to → HasPhysical q group to
-  filtered to (child, is, made) = subst (HasPhysical q group) (sym made) (subst (HasLogical q group) is shape, tt)
-
-  sought : (n : ℕ) (to : Physical) → SeeksIndex q group from n to → HasPhysical q group to
-  sought n to (index, (t, is, is_group, usable), made) =
-      subst (HasPhysical q group) (sym made) (
-        (t, is_group, ap unfiltered is_group),
-        subst (λ g. HasIndex q (table_in g) index) (sym is_group) (usable_there q t n index usable),
-      )
-
-  hashed : (to : Physical) → Hashes q from to → HasPhysical q group to
-  hashed to (left, right, (is, crossing), made) =
-      subst (HasPhysical q group) (sym made) (subst (HasLogical q group) is shape, tt)
-
-  merged : (to : Physical) → Merges q from to → HasPhysical q group to
-  merged to (left, right, (is, crossing), made) =
-      subst (HasPhysical q group) (sym made) (subst (HasLogical q group) is shape, tt)
-
-  looped : (to : Physical) → Loops from to → HasPhysical q group to
-  looped to (left, right, is, made) = subst (HasPhysical q group) (sym made) (subst (HasLogical q group) is shape, tt)
-
-  by_hash : (to : Physical) → GroupsByHash from to → HasPhysical q group to
-  by_hash to (child, is, made) = subst (HasPhysical q group) (sym made) (subst (HasLogical q group) is shape, tt)
-
-  in_order : (to : Physical) → GroupsInOrder q from to → HasPhysical q group to
-  in_order to (child, is, columns, made) =
-      subst (HasPhysical q group) (sym made) (subst (HasLogical q group) is shape, tt)
-
-  partly : (to : Physical) → GroupsPartly from to → HasPhysical q group to
-  partly to (child, is, made) = subst (HasPhysical q group) (sym made) (subst (HasLogical q group) is shape, tt)
+  -- another logical operator
+  said : (way : Exploration) (to : Logical) → Says q way group from to → HasLogical q group to
+  said Expansion to says = expanded to says
+  said Commutation to says = commuted to says
+  said Association to never = absurd never
+  said Split to says = split to says
 
   -- the group can have what comes of it
   logically : (P : Logical → Type 0) → ((to : Logical) → P to → HasLogical q group to) → (to : Operator)
@@ -148,21 +118,15 @@ module _ (sides : AreSides) (q : Query) (group : KeyParts) (known : IsGroup q gr
   physically P can (operators.Logical to) never = absurd never
 
   -- without a bound member
+  by_work : (rule : Rule) (work : Work) (n : ℕ) (to : Operator) → work_of rule ≡ work
+      → GivesByWork q rule work group from n to → HasShape q group to
+  by_work rule (Explores way) n to is (first, gives) = logically (Says q way group from) (said way) to gives
+  by_work rule (Implements condition) n to is gives =
+      physically (Makes q rule condition group from n)
+      (λ o makes. makes_held q group from rule condition is n o shape makes) to gives
+
   given : (rule : Rule) (n : ℕ) (to : Operator) → Gives q rule group from n to → HasShape q group to
-  given rules.ExpandNAry n to (first, gives) = logically (Expands q group from) expanded to gives
-  given rules.JoinCommute n to (first, gives) = logically (Commutes from) commuted to gives
-  given rules.JoinAssociate n to never = absurd never
-  given rules.SplitAgg n to (first, gives) = logically (SplitsGrouping q from) split to gives
-  given rules.GetToScan n to (first, gives) = physically (Scans from) scanned to gives
-  given rules.GetToIndexScan n to gives = physically (ScansIndex q group from n) (scanned_by_index n) to gives
-  given rules.SelectToFilter n to (first, gives) = physically (Filters from) filtered to gives
-  given rules.SelectToIndexSeek n to gives = physically (SeeksIndex q group from n) (sought n) to gives
-  given rules.JoinToHash n to (first, gives) = physically (Hashes q from) hashed to gives
-  given rules.JoinToMerge n to (first, gives) = physically (Merges q from) merged to gives
-  given rules.JoinToLoop n to (first, gives) = physically (Loops from) looped to gives
-  given rules.AggToHash n to (first, gives) = physically (GroupsByHash from) by_hash to gives
-  given rules.AggToStream n to (first, gives) = physically (GroupsInOrder q from) in_order to gives
-  given rules.PartialToHash n to (first, gives) = physically (GroupsPartly from) partly to gives
+  given rule n to gives = by_work rule (work_of rule) n to refl gives
 
   -- also with one
   given_with : (rule : Rule) (bound : Option ExprParts) (n : ℕ) (to : Operator) → IfSome bound (IsCandidate q)

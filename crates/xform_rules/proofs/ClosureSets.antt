@@ -95,7 +95,7 @@ module _ (q : Query) where
     implemented_says rule n to gives = record {
       own = says.own;
       both = λ set l r own two. let never : operators.Physical to ≡ operators.Logical (logical.Join l r) = two in cc;
-      child = λ c set is same. says.child c set (implemented_child q g from shape rule n to gives c is) same;
+      child = λ c set is same. says.child c set (implemented_child q g from rule n to gives c is) same;
     }
 
     split : (to : Logical) → SplitsGrouping q from to → SaysHeld q g (operators.Logical to)

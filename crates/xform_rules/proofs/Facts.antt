@@ -10,50 +10,38 @@ use Rattle.query_core.specs.declared.expressions.Operator.{Operator}
 use Rattle.query_core.specs.declared.expressions.Operator.TheVariants as operators
 use Rattle.query_core.specs.declared.expressions.ExprParts.{ExprParts}
 use Rattle.xform_rules.specs.declared.rules.Rule.{Rule}
-use Rattle.xform_rules.specs.declared.rules.Rule.TheVariants as rules
-use Rattle.xform_rules.specs.Rules.{explores, binds}
+use Rattle.xform_rules.specs.declared.rules.Work.{Work}
+use Rattle.xform_rules.specs.declared.rules.Work.TheVariants.{Explores, Implements}
+use Rattle.xform_rules.specs.declared.rules.Exploration.{Exploration}
+use Rattle.xform_rules.specs.declared.rules.Exploration.TheVariants.{Expansion, Commutation, Association, Split}
+use Rattle.xform_rules.specs.Rules.{work_of, explores, is_exploring, binds, is_binding, binds_member}
 use Rattle.xform_rules.specs.Forms.{IsLeftSide}
-use Rattle.xform_rules.specs.ExpandNAry.{Expands}
-use Rattle.xform_rules.specs.JoinCommute.{Commutes}
 use Rattle.xform_rules.specs.JoinAssociate.{Associates}
-use Rattle.xform_rules.specs.SplitAgg.{SplitsGrouping}
-use Rattle.xform_rules.specs.GetRules.{Scans, ScansIndex}
-use Rattle.xform_rules.specs.SelectRules.{Filters, SeeksIndex}
-use Rattle.xform_rules.specs.JoinRules.{Hashes, Merges, Loops}
-use Rattle.xform_rules.specs.AggRules.{GroupsByHash, GroupsInOrder, GroupsPartly}
-use Rattle.xform_rules.specs.Results.{IsFor, Applies, Gives, GivesWith, HasResult}
+use Rattle.xform_rules.specs.Implemented.{Makes}
+use Rattle.xform_rules.specs.Results.{IsExplored, IsForWork, IsFor, Applies, Says, GivesByWork, Gives, GivesWith}
+use Rattle.xform_rules.specs.Results.{HasResult}
 use Rattle.xform_rules.proofs.Operators.{logical_from, physical_from, logical_as, logical_kind, physical_kind}
 
 module _ (q : Query) (group : KeyParts) (from : Logical) where
-  -- an operator with a result of a rule is one that the rule is for
+  -- an operator of which a rule says another is one that it is for
+  said_meets : (way : Exploration) (to : Logical) → Says q way group from to → IsExplored q way group from
+  said_meets Expansion to (set, table, joins, last, made) = (set, joins)
+  said_meets Commutation to (left, right, is, made) = (left, right, is)
+  said_meets Association to never = absurd never
+  said_meets Split to (is, made) = is
+
+  -- and so is one with any result of the rule
+  work_meets : (rule : Rule) (work : Work) (n : ℕ) (to : Operator) → GivesByWork q rule work group from n to
+      → IsForWork q rule work group from
+  work_meets rule (Explores way) n to (first, gives) =
+      let (o, is_o, says) = logical_from (Says q way group from) to gives in
+      said_meets way o says
+  work_meets rule (Implements condition) n to gives =
+      let (o, is_o, makes) = physical_from (Makes q rule condition group from n) to gives in
+      (n, o, makes)
+
   gives_meets : (rule : Rule) (n : ℕ) (to : Operator) → Gives q rule group from n to → IsFor q rule group from
-  gives_meets rules.ExpandNAry n to (first, gives) = let (o, is_o, (set, table, joins, last, made)) =
-      logical_from (Expands q group from) to gives in (set, joins)
-  gives_meets rules.JoinCommute n to (first, gives) = let (o, is_o, (left, right, is, made)) =
-      logical_from (Commutes from) to gives in (left, right, is)
-  gives_meets rules.JoinAssociate n to never = absurd never
-  gives_meets rules.SplitAgg n to (first, gives) = let (o, is_o, (is, made)) =
-      logical_from (SplitsGrouping q from) to gives in is
-  gives_meets rules.GetToScan n to (first, gives) = let (o, is_o, (is, made)) = physical_from (Scans from) to gives in
-      is
-  gives_meets rules.GetToIndexScan n to gives = let (o, is_o, (is, made)) =
-      physical_from (ScansIndex q group from n) to gives in (n, is)
-  gives_meets rules.SelectToFilter n to (first, gives) = let (o, is_o, (child, is, made)) =
-      physical_from (Filters from) to gives in (child, is)
-  gives_meets rules.SelectToIndexSeek n to gives = let (o, is_o, (index, is, made)) =
-      physical_from (SeeksIndex q group from n) to gives in (n, index, is)
-  gives_meets rules.JoinToHash n to (first, gives) = let (o, is_o, (left, right, is, made)) =
-      physical_from (Hashes q from) to gives in (left, right, is)
-  gives_meets rules.JoinToMerge n to (first, gives) = let (o, is_o, (left, right, is, made)) =
-      physical_from (Merges q from) to gives in (left, right, is)
-  gives_meets rules.JoinToLoop n to (first, gives) = let (o, is_o, (left, right, is, made)) =
-      physical_from (Loops from) to gives in (left, right, is)
-  gives_meets rules.AggToHash n to (first, gives) = let (o, is_o, (child, is, made)) =
-      physical_from (GroupsByHash from) to gives in (child, is)
-  gives_meets rules.AggToStream n to (first, gives) = let (o, is_o, (child, is, columns, made)) =
-      physical_from (GroupsInOrder q from) to gives in ((child, is), columns)
-  gives_meets rules.PartialToHash n to (first, gives) = let (o, is_o, (child, is, made)) =
-      physical_from (GroupsPartly from) to gives in (child, is)
+  gives_meets rule = work_meets rule (work_of rule)
 
   with_meets : (rule : Rule) (bound : Option ExprParts) (n : ℕ) (to : Operator) → GivesWith q rule group bound n to from
       → IsFor q rule group from
@@ -63,21 +51,13 @@ module _ (q : Query) (group : KeyParts) (from : Logical) where
       subst (λ r. IsFor q r group from) (sym is_rule) (set, right, is)
 
   -- rules that explore give logical operators, and the others physical ones
+  work_kind : (rule : Rule) (work : Work) (n : ℕ) (to : Operator) → GivesByWork q rule work group from n to
+      → is_logical to ≡ is_exploring work
+  work_kind rule (Explores way) n to (first, gives) = logical_kind (Says q way group from) to gives
+  work_kind rule (Implements condition) n to gives = physical_kind (Makes q rule condition group from n) to gives
+
   gives_kind : (rule : Rule) (n : ℕ) (to : Operator) → Gives q rule group from n to → is_logical to ≡ explores rule
-  gives_kind rules.ExpandNAry n to (first, gives) = logical_kind (Expands q group from) to gives
-  gives_kind rules.JoinCommute n to (first, gives) = logical_kind (Commutes from) to gives
-  gives_kind rules.JoinAssociate n to never = absurd never
-  gives_kind rules.SplitAgg n to (first, gives) = logical_kind (SplitsGrouping q from) to gives
-  gives_kind rules.GetToScan n to (first, gives) = physical_kind (Scans from) to gives
-  gives_kind rules.GetToIndexScan n to gives = physical_kind (ScansIndex q group from n) to gives
-  gives_kind rules.SelectToFilter n to (first, gives) = physical_kind (Filters from) to gives
-  gives_kind rules.SelectToIndexSeek n to gives = physical_kind (SeeksIndex q group from n) to gives
-  gives_kind rules.JoinToHash n to (first, gives) = physical_kind (Hashes q from) to gives
-  gives_kind rules.JoinToMerge n to (first, gives) = physical_kind (Merges q from) to gives
-  gives_kind rules.JoinToLoop n to (first, gives) = physical_kind (Loops from) to gives
-  gives_kind rules.AggToHash n to (first, gives) = physical_kind (GroupsByHash from) to gives
-  gives_kind rules.AggToStream n to (first, gives) = physical_kind (GroupsInOrder q from) to gives
-  gives_kind rules.PartialToHash n to (first, gives) = physical_kind (GroupsPartly from) to gives
+  gives_kind rule = work_kind rule (work_of rule)
 
   with_kind : (rule : Rule) (bound : Option ExprParts) (n : ℕ) (to : Operator) → GivesWith q rule group bound n to from
       → is_logical to ≡ explores rule
@@ -86,21 +66,21 @@ module _ (q : Query) (group : KeyParts) (from : Logical) where
       ∙ sym (ap explores is_rule)
 
   -- a member is bound exactly by a rule that binds one
+  said_unbound : (way : Exploration) (to : Logical) → Says q way group from to → false ≡ binds_member way
+  said_unbound Expansion to says = refl
+  said_unbound Commutation to says = refl
+  said_unbound Association to never = absurd never
+  said_unbound Split to says = refl
+
+  work_unbound : (rule : Rule) (work : Work) (n : ℕ) (to : Operator) → GivesByWork q rule work group from n to
+      → false ≡ is_binding work
+  work_unbound rule (Explores way) n to (first, gives) =
+      let (o, is_o, says) = logical_from (Says q way group from) to gives in
+      said_unbound way o says
+  work_unbound rule (Implements condition) n to gives = refl
+
   gives_unbound : (rule : Rule) (n : ℕ) (to : Operator) → Gives q rule group from n to → false ≡ binds rule
-  gives_unbound rules.ExpandNAry n to gives = refl
-  gives_unbound rules.JoinCommute n to gives = refl
-  gives_unbound rules.JoinAssociate n to never = absurd never
-  gives_unbound rules.SplitAgg n to gives = refl
-  gives_unbound rules.GetToScan n to gives = refl
-  gives_unbound rules.GetToIndexScan n to gives = refl
-  gives_unbound rules.SelectToFilter n to gives = refl
-  gives_unbound rules.SelectToIndexSeek n to gives = refl
-  gives_unbound rules.JoinToHash n to gives = refl
-  gives_unbound rules.JoinToMerge n to gives = refl
-  gives_unbound rules.JoinToLoop n to gives = refl
-  gives_unbound rules.AggToHash n to gives = refl
-  gives_unbound rules.AggToStream n to gives = refl
-  gives_unbound rules.PartialToHash n to gives = refl
+  gives_unbound rule = work_unbound rule (work_of rule)
 
   with_binds : (rule : Rule) (bound : Option ExprParts) (n : ℕ) (to : Operator) → GivesWith q rule group bound n to from
       → is_some bound ≡ binds rule

@@ -32,19 +32,12 @@ finds_first P (suc n) found result first others finds =
     let never : suc n ≡ 0 → ⊥ = λ none. absurd (omega (arith, none)) in
     subst (Finds (λ x. (suc n ≡ 0) × P x)) (sym (others (omega arith))) (λ x both. never both.0)
 
--- the first logical operator, and the first physical one
+-- the first logical operator
 pub first_logical : (P : Logical → Type 0) (n : ℕ) (found : Option Logical) (result : Option Operator)
     → (n ≡ 0 → result ≡ option_map operators.Logical found)
     → (0 < n → result ≡ None) → Finds P found → Finds (λ to. (n ≡ 0) × IsLogical P to) result
 first_logical P n found result first others finds =
     finds_first (IsLogical P) n (option_map operators.Logical found) result first others (finds_logical P found finds)
-
-pub first_physical : (P : Physical → Type 0) (n : ℕ) (found : Option Physical) (result : Option Operator)
-    → (n ≡ 0 → result ≡ option_map operators.Physical found)
-    → (0 < n → result ≡ None) → Finds P found → Finds (λ to. (n ≡ 0) × IsPhysical P to) result
-first_physical P n found result first others finds =
-    finds_first (IsPhysical P) n (option_map operators.Physical found) result first others
-    (finds_physical P found finds)
 
 -- whether something is found
 pub finds_some : {A : Type 0} (P : A → Type 0) (found : Option A) (b : Bool) → b ≡ is_some found → Finds P found

@@ -2,6 +2,8 @@ pub mod Sets
 pub mod Operators
 pub mod Findings
 pub mod Usable
+pub mod EveryRule
+pub mod Making
 pub mod Candidates
 pub mod Single
 pub mod OneClosure

@@ -1,33 +1,35 @@
 -- The names of rules, each that of one rule.
-use Rattle.std.proofs.Common.{ℕ, ◌+◌, ◌<◌, Bool, true, false, ◌||◌, List, Some, length, take, get_or, refl, ap, sym, ◌≡◌, ◌∙◌}
+use Rattle.std.proofs.Common.{ℕ, ◌+◌, ◌<◌, ◌==◌, Bool, true, false, ◌||◌, List, Option}
+use Rattle.std.proofs.Common.{None, Some, length, take, get_or, refl, ap, sym}
+use Rattle.std.proofs.Common.{◌≡◌, ◌∙◌}
 use Rattle.std.specs.List.{find, list_any}
 use Rattle.std.specs.Str.{bytes_eq}
+use Rattle.std.specs.Option.{option_map_or}
+use Rattle.std.proofs.lemmas.Bool.{eqb-true, false≢true}
 use Rattle.std.proofs.lemmas.List.Folds.{list_any_more}
 use Rattle.std.proofs.lemmas.Slice.Eq.{bytes_eq-Decides}
 use Rattle.xform_rules.specs.declared.rules.Rule.{Rule}
-use Rattle.xform_rules.specs.declared.rules.Rule.TheVariants as rules
-use Rattle.xform_rules.specs.Rules.{all_rules, rule_name}
+use Rattle.xform_rules.specs.Rules.{all_rules, rule_name, rule_number}
+use Rattle.xform_rules.proofs.EveryRule.{every_rule, number_one}
 
 -- the rule has the name
 abbrev pub is_named : List ℕ → Rule → Bool
 is_named name rule = bytes_eq (rule_name rule) name
 
+-- the first rule of this rule's name has its number
+abbrev is_first_named : Rule → Bool
+is_first_named rule =
+    option_map_or (λ (r : Rule). rule_number r == rule_number rule) (find (is_named (rule_name rule)) all_rules) false
+
+-- so it is the rule
+found_first : (rule : Rule) (found : Option Rule)
+    → option_map_or (λ (r : Rule). rule_number r == rule_number rule) found false ≡ true → found ≡ Some rule
+found_first rule None is = absurd (false≢true is)
+found_first rule (Some r) is = ap Some (number_one r rule (eqb-true (rule_number r) (rule_number rule) is))
+
 -- each rule is the first of its name
-first_named : (rule : Rule) → find (is_named (rule_name rule)) all_rules ≡ Some rule
-first_named rules.ExpandNAry = refl
-first_named rules.JoinCommute = refl
-first_named rules.JoinAssociate = refl
-first_named rules.SplitAgg = refl
-first_named rules.GetToScan = refl
-first_named rules.GetToIndexScan = refl
-first_named rules.SelectToFilter = refl
-first_named rules.SelectToIndexSeek = refl
-first_named rules.JoinToHash = refl
-first_named rules.JoinToMerge = refl
-first_named rules.JoinToLoop = refl
-first_named rules.AggToHash = refl
-first_named rules.AggToStream = refl
-first_named rules.PartialToHash = refl
+pub first_named : (rule : Rule) → find (is_named (rule_name rule)) all_rules ≡ Some rule
+first_named rule = found_first rule (find (is_named (rule_name rule)) all_rules) (every_rule is_first_named refl rule)
 
 -- no two rules have one name
 pub name_one : (a b : Rule) → rule_name a ≡ rule_name b → a ≡ b

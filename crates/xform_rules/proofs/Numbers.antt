@@ -1,7 +1,5 @@
 -- A result that reads an index has at most that index's number.
-use Rattle.std.proofs.Common.{ℕ, ◌≤◌, ap, arith, take}
-use Rattle.std.proofs.lemmas.List.{length-take}
-use Rattle.std.proofs.lemmas.List.Sums.{count_by-le-length}
+use Rattle.std.proofs.Common.{ℕ, ◌≤◌, arith}
 use Rattle.query_core.specs.Expressions.{physical_fields}
 use Rattle.query_core.specs.declared.query.Query.{Query}
 use Rattle.query_core.specs.declared.words.KeyParts.{KeyParts}
@@ -9,36 +7,18 @@ use Rattle.query_core.specs.declared.expressions.Logical.{Logical}
 use Rattle.query_core.specs.declared.expressions.Physical.{Physical}
 use Rattle.query_core.specs.declared.expressions.Operator.TheVariants as operators
 use Rattle.xform_rules.specs.declared.rules.Rule.{Rule}
-use Rattle.xform_rules.specs.declared.rules.Rule.TheVariants as rules
-use Rattle.xform_rules.specs.SelectRules.{is_usable, HasNthUsable}
-use Rattle.xform_rules.specs.Results.{Gives}
+use Rattle.xform_rules.specs.declared.rules.Work.{Work}
+use Rattle.xform_rules.specs.declared.rules.Work.TheVariants.{Explores, Implements}
+use Rattle.xform_rules.specs.Rules.{work_of}
+use Rattle.xform_rules.specs.Results.{Gives, GivesByWork}
+use Rattle.xform_rules.proofs.Making.{makes_within}
 
--- at most so many usable indexes come before an index
-usable_within : (q : Query) (t n index : ℕ) → HasNthUsable q t n index → n ≤ index
-usable_within q t n index (table, got, nth) =
-    omega (
-      arith,
-      nth.before,
-      count_by-le-length (is_usable q t) (take index table.indexes),
-      length-take index table.indexes,
-    )
+by_work : (q : Query) (rule : Rule) (work : Work) (g : KeyParts) (from : Logical) (n : ℕ) (to : Physical)
+    → GivesByWork q rule work g from n (operators.Physical to) → n ≤ (physical_fields to).index
+by_work q rule (Explores way) g from n to gives = omega (arith, gives.0)
+by_work q rule (Implements condition) g from n to gives = makes_within q g from rule condition n to gives
 
 pub number_within : (q : Query) (rule : Rule) (g : KeyParts) (from : Logical) (n : ℕ) (to : Physical)
     → Gives q rule g from n (operators.Physical to)
     → n ≤ (physical_fields to).index
-number_within q rules.ExpandNAry g from n to gives = omega (arith, gives.0)
-number_within q rules.JoinCommute g from n to gives = omega (arith, gives.0)
-number_within q rules.JoinAssociate g from n to gives = absurd gives
-number_within q rules.SplitAgg g from n to gives = omega (arith, gives.0)
-number_within q rules.GetToScan g from n to gives = omega (arith, gives.0)
-number_within q rules.GetToIndexScan g from n to (is, made) =
-    omega (arith, ap (λ (x : Physical). (physical_fields x).index) made)
-number_within q rules.SelectToFilter g from n to gives = omega (arith, gives.0)
-number_within q rules.SelectToIndexSeek g from n to (index, (t, is, own, usable), made) =
-    omega (arith, usable_within q t n index usable, ap (λ (x : Physical). (physical_fields x).index) made)
-number_within q rules.JoinToHash g from n to gives = omega (arith, gives.0)
-number_within q rules.JoinToMerge g from n to gives = omega (arith, gives.0)
-number_within q rules.JoinToLoop g from n to gives = omega (arith, gives.0)
-number_within q rules.AggToHash g from n to gives = omega (arith, gives.0)
-number_within q rules.AggToStream g from n to gives = omega (arith, gives.0)
-number_within q rules.PartialToHash g from n to gives = omega (arith, gives.0)
+number_within q rule = by_work q rule (work_of rule)

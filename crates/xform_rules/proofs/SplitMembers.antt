@@ -71,7 +71,7 @@ module _ (q : Query) where
       gives_says rule n (operators.Physical to) on gives =
           record {
             own = says.own;
-            child = λ is. says.child (implemented_child q g from shape rule n to gives groups.Partial is);
+            child = λ is. says.child (implemented_child q g from rule n to gives groups.Partial is);
           }
       gives_says rule n (operators.Logical to) on gives = elim (explored q g from rule n to gives) [
         | inl (is_on, (set, t, joins, last, made)) ↦

@@ -11,14 +11,14 @@ use Rattle.query_core.specs.declared.table.QueryTable.{QueryTable}
 use Rattle.std.specs.List.{count_by, fold}
 use Rattle.std.specs.Option.{option_map_or}
 use Rattle.std.proofs.lemmas.Bool.{cases_Bool, false≢true, and_parts, leb-true, ltb-true, lt-ltb, cases_order}
-use Rattle.std.proofs.lemmas.List.{take-take}
+use Rattle.std.proofs.lemmas.List.{take-take, length-take}
 use Rattle.std.proofs.lemmas.Option.{slice_get-get_or, slice_get_read, slice_get_within}
 use Rattle.query_core.specs.declared.query.Query.{Query}
 use Rattle.query_core.specs.declared.words.KeyParts.TheVariants as groups
 use Rattle.query_core.specs.declared.words.KeyParts.{KeyParts}
-use Rattle.query_core.specs.declared.expressions.Logical.{Logical}
 use Rattle.xform_rules.specs.Forms.{Finds}
-use Rattle.xform_rules.specs.SelectRules.{is_usable, IsNthUsable, HasNthUsable, IsSelect, IsUsableSelect}
+use Rattle.xform_rules.specs.UsableIndexes.{is_usable, IsNthUsable, HasNthUsable}
+use Rattle.xform_rules.specs.Implemented.{HasUsable}
 use Rattle.xform_rules.proofs.Findings.{finds_as}
 
 -- a place whose element passes is one of the list
@@ -78,14 +78,13 @@ nth_of_table q t table n found got =
     subst (λ (x : QueryTable). IsNthUsable q t x.indexes n index) same nth)
     found
 
--- and that of the operator over the table
-pub nth_of_select : (q : Query) (group : KeyParts) (from : Logical) (t n : ℕ) (found : Option ℕ) → IsSelect from
-    → group ≡ groups.Filter t
-    → Finds (HasNthUsable q t n) found → Finds (IsUsableSelect q group from n) found
-nth_of_select q group from t n found select over =
-    finds_as (HasNthUsable q t n) (IsUsableSelect q group from n)
-    (λ index nth. (t, select, over, nth))
-    (λ index (u, is_select, over_other, nth). let same : u ≡ t = cc in subst (λ x. HasNthUsable q x n index) same nth)
+-- and that of the group over the table
+pub nth_of_group : (q : Query) (group : KeyParts) (t n : ℕ) (found : Option ℕ) → group ≡ groups.Filter t
+    → Finds (HasNthUsable q t n) found → Finds (HasUsable q group n) found
+nth_of_group q group t n found over =
+    finds_as (HasNthUsable q t n) (HasUsable q group n)
+    (λ index nth. (t, over, nth))
+    (λ index (u, over_other, nth). let same : u ≡ t = cc in subst (λ x. HasNthUsable q x n index) same nth)
     found
 
 -- what stands at a place of the tables that are read
@@ -163,8 +162,34 @@ first_passing p (x ∷ xs) (suc i) passes = elim (cases_Bool (p x)) [
 ]
 
 -- where an index is usable, there is a first one
-pub first_usable : (q : Query) (group : KeyParts) (from : Logical) (n index : ℕ) → IsUsableSelect q group from n index
-    → (j : ℕ) × IsUsableSelect q group from 0 j
-first_usable q group from n index (t, select, over, (table, got, nth)) =
+pub first_usable : (q : Query) (group : KeyParts) (n index : ℕ) → HasUsable q group n index
+    → (j : ℕ) × HasUsable q group 0 j
+first_usable q group n index (t, over, (table, got, nth)) =
     let (j, first, before) = first_passing (is_usable q t) table.indexes index nth.usable in
-    (j, (t, select, over, (table, got, record { usable = first; before = before })))
+    (j, (t, over, (table, got, record { usable = first; before = before })))
+
+-- a table has few indexes
+pub few_own : (q : Query) (t index : ℕ) → HasIndex q t index → index < 16
+few_own q t index (table, got, within) = omega (arith, within, few_indexes q t table got)
+
+-- at most so many usable indexes come before an index
+pub usable_within : (q : Query) (t n index : ℕ) → HasNthUsable q t n index → n ≤ index
+usable_within q t n index (table, got, nth) =
+    omega (
+      arith,
+      nth.before,
+      count_by-le-length (is_usable q t) (take index table.indexes),
+      length-take index table.indexes,
+    )
+
+-- one index is the n-th that is usable
+pub usable_one : (q : Query) (group : KeyParts) (n i j : ℕ) → HasUsable q group n i → HasUsable q group n j → i ≡ j
+usable_one q group n i j (t, is_group, (table, got, nth)) (u, is_group_other, (table_other, got_other, nth_other)) =
+    let same_group : groups.Filter t ≡ groups.Filter u = sym is_group ∙ is_group_other in
+    let same_t : u ≡ t = cc in
+    let found : Some table ≡ Some table_other = sym got ∙ ap (λ k. slice_get q.tables k) (sym same_t) ∙ got_other in
+    let same_table : table_other ≡ table = cc in
+    let other : IsNthUsable q t table.indexes n j =
+    subst (λ k. IsNthUsable q k table.indexes n j) same_t
+    (subst (λ (r : QueryTable). IsNthUsable q u r.indexes n j) same_table nth_other) in
+    nth_one q t table.indexes n i j nth other

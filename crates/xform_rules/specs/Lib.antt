@@ -4,14 +4,11 @@ pub mod ExpandNAry
 pub mod JoinCommute
 pub mod JoinAssociate
 pub mod SplitAgg
-pub mod GetRules
-pub mod SelectRules
-pub mod JoinRules
-pub mod AggRules
+pub mod UsableIndexes
+pub mod Implemented
 pub mod Results
 pub mod Closure
 pub mod Counts
 pub mod Splits
 pub mod Held
 pub mod OneOrder
-pub mod Implemented

@@ -5,60 +5,59 @@ use Rattle.query_core.specs.declared.query.Query.{Query}
 use Rattle.query_core.specs.declared.words.Expr.{Expr}
 use Rattle.query_core.specs.declared.words.KeyParts.{KeyParts}
 use Rattle.query_core.specs.declared.expressions.Logical.{Logical}
+use Rattle.query_core.specs.declared.expressions.Physical.{Physical}
 use Rattle.query_core.specs.declared.expressions.Operator.{Operator}
 use Rattle.query_core.specs.declared.expressions.ExprParts.{ExprParts}
 use Rattle.xform_rules.specs.declared.rules.Rule.{Rule}
 use Rattle.xform_rules.specs.declared.rules.Rule.TheVariants as rules
-use Rattle.xform_rules.specs.Rules.{rule_number, IsOn}
+use Rattle.xform_rules.specs.declared.rules.Work.{Work}
+use Rattle.xform_rules.specs.declared.rules.Work.TheVariants as works
+use Rattle.xform_rules.specs.declared.rules.Exploration.{Exploration}
+use Rattle.xform_rules.specs.declared.rules.Exploration.TheVariants.{Expansion, Commutation, Association, Split}
+use Rattle.xform_rules.specs.Rules.{rule_number, work_of, IsOn}
 use Rattle.xform_rules.specs.Forms.{IsLogical, IsPhysical, IsLogicalJoin}
 use Rattle.xform_rules.specs.ExpandNAry.{JoinsSet, Expands}
 use Rattle.xform_rules.specs.JoinCommute.{Commutes}
 use Rattle.xform_rules.specs.JoinAssociate.{IsOverJoin, Associates}
 use Rattle.xform_rules.specs.SplitAgg.{GroupsInput, SplitsGrouping}
-use Rattle.xform_rules.specs.GetRules.{IsGet, IsIndexedGet, Scans, ScansIndex}
-use Rattle.xform_rules.specs.SelectRules.{IsSelect, IsUsableSelect, Filters, SeeksIndex}
-use Rattle.xform_rules.specs.JoinRules.{IsEquated, Hashes, Merges, Loops}
-use Rattle.xform_rules.specs.AggRules.{IsAggregation, IsGroupingByColumns, IsPartialGrouping, GroupsByHash}
-use Rattle.xform_rules.specs.AggRules.{GroupsInOrder, GroupsPartly}
+use Rattle.xform_rules.specs.Implemented.{Makes}
+
+-- the logical operator of a group is one that a rule says otherwise
+abbrev pub IsExplored : Query → Exploration → KeyParts → Logical → Type 0
+IsExplored q Expansion group from = (set : ℕ) × JoinsSet group from set
+IsExplored q Commutation group from = IsLogicalJoin from
+IsExplored q Association group from = IsOverJoin from
+IsExplored q Split group from = GroupsInput q from
+
+-- or one of which a rule makes a physical operator
+abbrev pub IsForWork : Query → Rule → Work → KeyParts → Logical → Type 0
+IsForWork q rule (works.Explores way) group from = IsExplored q way group from
+IsForWork q rule (works.Implements condition) group from =
+    (n : ℕ) × (to : Physical) × Makes q rule condition group from n to
 
 -- the logical operator of a group is one that the rule is for
 abbrev pub IsFor : Query → Rule → KeyParts → Logical → Type 0
-IsFor q rules.ExpandNAry group from = (set : ℕ) × JoinsSet group from set
-IsFor q rules.JoinCommute group from = IsLogicalJoin from
-IsFor q rules.JoinAssociate group from = IsOverJoin from
-IsFor q rules.SplitAgg group from = GroupsInput q from
-IsFor q rules.GetToScan group from = IsGet from
-IsFor q rules.GetToIndexScan group from = (index : ℕ) × IsIndexedGet q group from index
-IsFor q rules.SelectToFilter group from = IsSelect from
-IsFor q rules.SelectToIndexSeek group from = (n index : ℕ) × IsUsableSelect q group from n index
-IsFor q rules.JoinToHash group from = IsEquated q from
-IsFor q rules.JoinToMerge group from = IsEquated q from
-IsFor q rules.JoinToLoop group from = IsLogicalJoin from
-IsFor q rules.AggToHash group from = IsAggregation from
-IsFor q rules.AggToStream group from = IsGroupingByColumns q from
-IsFor q rules.PartialToHash group from = IsPartialGrouping from
+IsFor q rule group from = IsForWork q rule (work_of rule) group from
 
 -- the rule is on, and the expression is one that it is for
 pub record Applies (q : Query) (rule : Rule) (e : ExprParts) : Type 0 where
   pub on : IsOn q rule
   pub is_for : IsLogical (IsFor q rule e.group) e.operator
 
+-- the other logical operator is what a rule that needs no other member says
+abbrev pub Says : Query → Exploration → KeyParts → Logical → Logical → Type 0
+Says q Expansion group from to = Expands q group from to
+Says q Commutation group from to = Commutes from to
+Says q Association group from to = ⊥
+Says q Split group from to = SplitsGrouping q from to
+
 -- the other operator is the n-th result, from 0, of a rule that needs no other member
+abbrev pub GivesByWork : Query → Rule → Work → KeyParts → Logical → ℕ → Operator → Type 0
+GivesByWork q rule (works.Explores way) group from n to = (n ≡ 0) × IsLogical (Says q way group from) to
+GivesByWork q rule (works.Implements condition) group from n to = IsPhysical (Makes q rule condition group from n) to
+
 abbrev pub Gives : Query → Rule → KeyParts → Logical → ℕ → Operator → Type 0
-Gives q rules.ExpandNAry group from n to = (n ≡ 0) × IsLogical (Expands q group from) to
-Gives q rules.JoinCommute group from n to = (n ≡ 0) × IsLogical (Commutes from) to
-Gives q rules.JoinAssociate group from n to = ⊥
-Gives q rules.SplitAgg group from n to = (n ≡ 0) × IsLogical (SplitsGrouping q from) to
-Gives q rules.GetToScan group from n to = (n ≡ 0) × IsPhysical (Scans from) to
-Gives q rules.GetToIndexScan group from n to = IsPhysical (ScansIndex q group from n) to
-Gives q rules.SelectToFilter group from n to = (n ≡ 0) × IsPhysical (Filters from) to
-Gives q rules.SelectToIndexSeek group from n to = IsPhysical (SeeksIndex q group from n) to
-Gives q rules.JoinToHash group from n to = (n ≡ 0) × IsPhysical (Hashes q from) to
-Gives q rules.JoinToMerge group from n to = (n ≡ 0) × IsPhysical (Merges q from) to
-Gives q rules.JoinToLoop group from n to = (n ≡ 0) × IsPhysical (Loops from) to
-Gives q rules.AggToHash group from n to = (n ≡ 0) × IsPhysical (GroupsByHash from) to
-Gives q rules.AggToStream group from n to = (n ≡ 0) × IsPhysical (GroupsInOrder q from) to
-Gives q rules.PartialToHash group from n to = (n ≡ 0) × IsPhysical (GroupsPartly from) to
+Gives q rule group from n to = GivesByWork q rule (work_of rule) group from n to
 
 -- the other is the n-th result, from 0, of JoinAssociate, which binds a member of the left group
 abbrev pub GivesBound : Query → Rule → Logical → ExprParts → ℕ → Operator → Type 0

@@ -1,4 +1,4 @@
-//! What the layers above know of results.
+//! What the layers above know of rules and their results.
 #![tactic(auto)]
 
 ghost use Rattle.std.specs.Prelude.{ℕ, ◌≡◌, ◌<◌, IfSome, IsTrue, Option, Some, is_some};
@@ -10,11 +10,16 @@ ghost use Rattle.query_core.specs.Expressions.{FallsInto, IsCandidate, is_logica
 ghost use Rattle.xform_rules.specs.declared.rules.Rule.{Rule};
 ghost use Rattle.xform_rules.specs.Counts.{table_count};
 ghost use Rattle.xform_rules.specs.Forms.{IsLeftSide};
-ghost use Rattle.xform_rules.specs.Rules.{rule_limit, explores, binds};
+ghost use Rattle.xform_rules.specs.Rules.{rule_limit, explores, binds, RulesAreKnown};
 ghost use Rattle.xform_rules.specs.Results.{Applies, HasResult};
 ghost use Rattle.xform_rules.specs.Closure.{IsMember};
 
 use query_core::{candidates_are_known, groups_are_known, sides_are_known};
+
+/// What is known of the rules, whatever the query.
+pub fn rules_are_known()
+    ensures { RulesAreKnown }
+{}
 
 /// The results of a rule at a candidate are candidates, one of each number, up to its limit.
 pub fn results_are_candidates()

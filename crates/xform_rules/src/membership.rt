@@ -6,8 +6,9 @@ ghost use Rattle.query_core.specs.Expressions.{IsCandidate, IsCandidateWord, IsP
 ghost use Rattle.xform_rules.specs.Forms.{logical_in, physical_in};
 ghost use Rattle.xform_rules.specs.Results.{HasResult};
 ghost use Rattle.xform_rules.specs.Closure.{IsMember, IsMemberWord};
-ghost use Rattle.xform_rules.specs.Implemented.{implemented_by, rule_of as giving_rule};
+ghost use Rattle.xform_rules.specs.Implemented.{implemented_by};
 
+use crate::implemented::giving_rule;
 use crate::joins_held::{has_join, has_join_group};
 use crate::laws::{members_are_candidates, results_are_candidates};
 use crate::results::result_at;
@@ -72,25 +73,7 @@ fn is_physical_member(query: &Query, group: KeyParts, to: Physical) -> bool
 fn implemented(group: KeyParts, to: Physical) -> (Rule, Logical)
     ensures { result ≡ implemented_by group to }
 {
-    (rule_of(to), to.implements(group))
-}
-
-/// The rule that gives a physical operator.
-fn rule_of(to: Physical) -> Rule
-    ensures { result ≡ giving_rule to }
-{
-    match to {
-        Physical::Scan => Rule::GetToScan,
-        Physical::IndexScan(_) => Rule::GetToIndexScan,
-        Physical::Filter(_) => Rule::SelectToFilter,
-        Physical::IndexSeek(_) => Rule::SelectToIndexSeek,
-        Physical::HashJoin(_, _) => Rule::JoinToHash,
-        Physical::MergeJoin(_, _) => Rule::JoinToMerge,
-        Physical::LoopJoin(_, _) => Rule::JoinToLoop,
-        Physical::HashAgg(_) => Rule::AggToHash,
-        Physical::StreamAgg(_) => Rule::AggToStream,
-        Physical::PartialAgg(_) => Rule::PartialToHash,
-    }
+    (giving_rule(to), to.implements(group))
 }
 
 /// Whether the rule gives the physical operator of the logical one, as any of its results.

@@ -7,19 +7,14 @@ ghost use Rattle.query_core.specs.declared.expressions.ExprParts.{ExprParts};
 ghost use Rattle.query_core.specs.declared.expressions.Operator.TheVariants as operators;
 ghost use Rattle.query_core.specs.Expressions.{AreInRange, IsPacked, logical_fields};
 ghost use Rattle.xform_rules.specs.Forms.{Finds};
-ghost use Rattle.xform_rules.specs.Results.{IsFor, Applies, Gives, GivesBound, GivesWith, HasResult};
+ghost use Rattle.xform_rules.specs.Results.{IsExplored, IsFor, Applies, Says, Gives, GivesBound, GivesWith};
+ghost use Rattle.xform_rules.specs.Results.{HasResult};
 
-use crate::agg_rules::{
-    grouped_by_hash, grouped_in_order, grouped_partly, is_grouping, is_grouping_by_columns,
-    is_partial_grouping,
-};
 use crate::expand_n_ary::{expanded, set_of};
-use crate::get_rules::{is_get, is_indexed_get, scanned, scanned_by_index};
+use crate::implemented::made;
 use crate::join_associate::{associated, joins_join};
-use crate::join_commute::commuted;
-use crate::join_rules::{hashed, is_equated, is_join, looped, merged};
-use crate::rules::{Rule, is_on};
-use crate::select_rules::{filtered, is_select, sought, usable_index};
+use crate::join_commute::{commuted, is_join};
+use crate::rules::{Exploration, Rule, Work, is_on};
 use crate::split_agg::{groups_input, split};
 use query_core::{ExprParts, KeyParts, Logical, Operator, Physical, Query};
 
@@ -40,21 +35,20 @@ pub fn applies_at(query: &Query, rule: Rule, e: ExprParts) -> bool
 fn is_for(query: &Query, rule: Rule, group: KeyParts, from: Logical) -> bool
     ensures { IsTrue result ↔ IsFor query.now rule group from }
 {
-    match rule {
-        Rule::ExpandNAry => set_of(group, from).is_some(),
-        Rule::JoinCommute => is_join(from),
-        Rule::JoinAssociate => joins_join(from),
-        Rule::SplitAgg => groups_input(query, from),
-        Rule::GetToScan => is_get(from),
-        Rule::GetToIndexScan => is_indexed_get(query, group, from, 0),
-        Rule::SelectToFilter => is_select(from),
-        Rule::SelectToIndexSeek => usable_index(query, group, from, 0).is_some(),
-        Rule::JoinToHash => is_equated(query, from),
-        Rule::JoinToMerge => is_equated(query, from),
-        Rule::JoinToLoop => is_join(from),
-        Rule::AggToHash => is_grouping(from),
-        Rule::AggToStream => is_grouping_by_columns(query, from),
-        Rule::PartialToHash => is_partial_grouping(from),
+    match rule.work() {
+        Work::Explores(way) => is_explored(query, way, group, from),
+        Work::Implements(condition) => made(query, rule, condition, group, from, 0).is_some(),
+    }
+}
+
+fn is_explored(query: &Query, way: Exploration, group: KeyParts, from: Logical) -> bool
+    ensures { IsTrue result ↔ IsExplored query.now way group from }
+{
+    match way {
+        Exploration::Expansion => set_of(group, from).is_some(),
+        Exploration::Commutation => is_join(from),
+        Exploration::Association => joins_join(from),
+        Exploration::Split => groups_input(query, from),
     }
 }
 
@@ -126,21 +120,21 @@ fn without_member(
 ) -> Option<Operator>
     ensures { Finds (Gives query.now rule group from n) result }
 {
-    match rule {
-        Rule::ExpandNAry => explored(n, expanded(query, group, from)),
-        Rule::JoinCommute => explored(n, commuted(from)),
-        Rule::JoinAssociate => None,
-        Rule::SplitAgg => explored(n, split(query, from)),
-        Rule::GetToScan => implemented(n, scanned(from)),
-        Rule::GetToIndexScan => physical(scanned_by_index(query, group, from, n)),
-        Rule::SelectToFilter => implemented(n, filtered(from)),
-        Rule::SelectToIndexSeek => physical(sought(query, group, from, n)),
-        Rule::JoinToHash => implemented(n, hashed(query, from)),
-        Rule::JoinToMerge => implemented(n, merged(query, from)),
-        Rule::JoinToLoop => implemented(n, looped(from)),
-        Rule::AggToHash => implemented(n, grouped_by_hash(from)),
-        Rule::AggToStream => implemented(n, grouped_in_order(query, from)),
-        Rule::PartialToHash => implemented(n, grouped_partly(from)),
+    match rule.work() {
+        Work::Explores(way) => explored(n, said(query, way, group, from)),
+        Work::Implements(condition) => physical(made(query, rule, condition, group, from, n)),
+    }
+}
+
+/// The other logical operator that a rule which needs no other member says.
+fn said(query: &Query, way: Exploration, group: KeyParts, from: Logical) -> Option<Logical>
+    ensures { Finds (Says query.now way group from) result }
+{
+    match way {
+        Exploration::Expansion => expanded(query, group, from),
+        Exploration::Commutation => commuted(from),
+        Exploration::Association => None,
+        Exploration::Split => split(query, from),
     }
 }
 
@@ -154,14 +148,6 @@ fn explored(n: u32, found: Option<Logical>) -> Option<Operator>
     } else {
         None
     }
-}
-
-/// The first result of a rule that implements.
-fn implemented(n: u32, found: Option<Physical>) -> Option<Operator>
-    ensures first { n ≡ 0 → result ≡ option_map operators.Physical found }
-    ensures others { 0 < n → result ≡ None }
-{
-    if n == 0 { physical(found) } else { None }
 }
 
 fn physical(found: Option<Physical>) -> Option<Operator>

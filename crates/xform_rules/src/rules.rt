@@ -1,12 +1,17 @@
-//! The rules and their numbers.
+//! The rules, what is known of each, and which of them are on.
 #![tactic(auto)]
 
 ghost use Rattle.std.specs.Prelude.{◌≡◌, ◌≤◌, IsTrue, ◌↔◌, IfSome, Some};
 ghost use Rattle.std.specs.List.{Contains};
 ghost use Rattle.xform_rules.specs.Rules.{all_rules, rule_name, rule_number, rule_limit, IsOn};
 ghost use Rattle.xform_rules.specs.Rules.{explores as rule_explores, binds as rule_binds};
-ghost use Rattle.xform_rules.specs.Rules.{can_be_off as may_be_off};
+ghost use Rattle.xform_rules.specs.Rules.{can_be_off as may_be_off, work_of};
+ghost use Rattle.xform_rules.specs.Rules.{most_results, most_allowed, is_exploring, is_binding};
+ghost use Rattle.xform_rules.specs.Rules.{can_stop, can_be_without, binds_member};
 
+use Condition::{Always, Equated, Grouping, OwnIndex, UsableIndex};
+use Exploration::{Association, Commutation, Expansion, Split};
+use Work::{Explores, Implements};
 use query_core::{Query, sets};
 
 /// A rule. The first four explore; the others implement.
@@ -26,6 +31,50 @@ pub enum Rule {
     AggToHash,
     AggToStream,
     PartialToHash,
+}
+
+/// What a rule does with a logical expression.
+#[derive(Clone, Copy)]
+pub enum Work {
+    /// It says otherwise what is wanted.
+    Explores(Exploration),
+    /// It says how this is made, under a condition.
+    Implements(Condition),
+}
+
+/// How a rule that explores says it otherwise.
+#[derive(Clone, Copy)]
+pub enum Exploration {
+    /// A join in no order becomes the join of one of its tables with the others.
+    Expansion,
+    /// The sides of a join change places.
+    Commutation,
+    /// A join over a join is bracketed the other way.
+    Association,
+    /// Groups are made of groups that are not complete.
+    Split,
+}
+
+/// When a rule that implements gives its operator.
+#[derive(Clone, Copy)]
+pub enum Condition {
+    Always,
+    /// Some predicate equates the sides of the join.
+    Equated,
+    /// There is a column to group by.
+    Grouping,
+    /// One operator for each index of the table.
+    OwnIndex,
+    /// One operator for each index by which the table's own predicates find rows.
+    UsableIndex,
+}
+
+/// What is known of a rule.
+#[derive(Clone, Copy)]
+struct Facts {
+    number: u32,
+    name: &'static str,
+    work: Work,
 }
 
 impl Rule {
@@ -52,137 +101,163 @@ impl Rule {
         ]
     }
 
+    fn facts(self) -> Facts
+        ensures number { result.number ≡ rule_number self }
+        ensures name { result.name.now ≡ rule_name self }
+        ensures work { result.work ≡ work_of self }
+    {
+        match self {
+            Rule::ExpandNAry => row(1, "ExpandNAry", Explores(Expansion)),
+            Rule::JoinCommute => row(2, "JoinCommute", Explores(Commutation)),
+            Rule::JoinAssociate => row(3, "JoinAssociate", Explores(Association)),
+            Rule::SplitAgg => row(4, "SplitAgg", Explores(Split)),
+            Rule::GetToScan => row(5, "GetToScan", Implements(Always)),
+            Rule::GetToIndexScan => row(6, "GetToIndexScan", Implements(OwnIndex)),
+            Rule::SelectToFilter => row(7, "SelectToFilter", Implements(Always)),
+            Rule::SelectToIndexSeek => row(8, "SelectToIndexSeek", Implements(UsableIndex)),
+            Rule::JoinToHash => row(9, "JoinToHash", Implements(Equated)),
+            Rule::JoinToMerge => row(10, "JoinToMerge", Implements(Equated)),
+            Rule::JoinToLoop => row(11, "JoinToLoop", Implements(Always)),
+            Rule::AggToHash => row(12, "AggToHash", Implements(Always)),
+            Rule::AggToStream => row(13, "AggToStream", Implements(Grouping)),
+            Rule::PartialToHash => row(14, "PartialToHash", Implements(Always)),
+        }
+    }
+
     /// The number of the rule: 1 to 14.
     pub fn number(self) -> u32
         ensures value { result ≡ rule_number self }
         ensures some { 1 ≤ result }
         ensures most { result ≤ 14 }
     {
-        match self {
-            Rule::ExpandNAry => 1,
-            Rule::JoinCommute => 2,
-            Rule::JoinAssociate => 3,
-            Rule::SplitAgg => 4,
-            Rule::GetToScan => 5,
-            Rule::GetToIndexScan => 6,
-            Rule::SelectToFilter => 7,
-            Rule::SelectToIndexSeek => 8,
-            Rule::JoinToHash => 9,
-            Rule::JoinToMerge => 10,
-            Rule::JoinToLoop => 11,
-            Rule::AggToHash => 12,
-            Rule::AggToStream => 13,
-            Rule::PartialToHash => 14,
-        }
+        self.facts().number
     }
 
     /// The name of the rule.
     pub fn name(self) -> &'static str
         ensures { result.now ≡ rule_name self }
     {
-        match self {
-            Rule::ExpandNAry => "ExpandNAry",
-            Rule::JoinCommute => "JoinCommute",
-            Rule::JoinAssociate => "JoinAssociate",
-            Rule::SplitAgg => "SplitAgg",
-            Rule::GetToScan => "GetToScan",
-            Rule::GetToIndexScan => "GetToIndexScan",
-            Rule::SelectToFilter => "SelectToFilter",
-            Rule::SelectToIndexSeek => "SelectToIndexSeek",
-            Rule::JoinToHash => "JoinToHash",
-            Rule::JoinToMerge => "JoinToMerge",
-            Rule::JoinToLoop => "JoinToLoop",
-            Rule::AggToHash => "AggToHash",
-            Rule::AggToStream => "AggToStream",
-            Rule::PartialToHash => "PartialToHash",
-        }
+        self.facts().name
+    }
+
+    /// What the rule does.
+    pub fn work(self) -> Work
+        ensures { result ≡ work_of self }
+    {
+        self.facts().work
     }
 
     /// How many results it can have at an expression: one for each index of a table, or one.
     pub fn limit(self) -> u32
         ensures { result ≡ rule_limit self }
     {
-        match self {
-            Rule::ExpandNAry => 1,
-            Rule::JoinCommute => 1,
-            Rule::JoinAssociate => 1,
-            Rule::SplitAgg => 1,
-            Rule::GetToScan => 1,
-            Rule::GetToIndexScan => 16,
-            Rule::SelectToFilter => 1,
-            Rule::SelectToIndexSeek => 16,
-            Rule::JoinToHash => 1,
-            Rule::JoinToMerge => 1,
-            Rule::JoinToLoop => 1,
-            Rule::AggToHash => 1,
-            Rule::AggToStream => 1,
-            Rule::PartialToHash => 1,
-        }
+        self.work().limit()
     }
 
     /// Whether it gives other logical expressions. The other rules give physical ones.
     pub fn explores(self) -> bool
         ensures { result ≡ rule_explores self }
     {
-        match self {
-            Rule::ExpandNAry => true,
-            Rule::JoinCommute => true,
-            Rule::JoinAssociate => true,
-            Rule::SplitAgg => true,
-            Rule::GetToScan => false,
-            Rule::GetToIndexScan => false,
-            Rule::SelectToFilter => false,
-            Rule::SelectToIndexSeek => false,
-            Rule::JoinToHash => false,
-            Rule::JoinToMerge => false,
-            Rule::JoinToLoop => false,
-            Rule::AggToHash => false,
-            Rule::AggToStream => false,
-            Rule::PartialToHash => false,
-        }
+        self.work().explores()
     }
 
     /// Whether it binds a member of the left child's group.
     pub fn binds(self) -> bool
         ensures { result ≡ rule_binds self }
     {
-        match self {
-            Rule::ExpandNAry => false,
-            Rule::JoinCommute => false,
-            Rule::JoinAssociate => true,
-            Rule::SplitAgg => false,
-            Rule::GetToScan => false,
-            Rule::GetToIndexScan => false,
-            Rule::SelectToFilter => false,
-            Rule::SelectToIndexSeek => false,
-            Rule::JoinToHash => false,
-            Rule::JoinToMerge => false,
-            Rule::JoinToLoop => false,
-            Rule::AggToHash => false,
-            Rule::AggToStream => false,
-            Rule::PartialToHash => false,
-        }
+        self.work().binds()
     }
 
     /// Whether it can be switched off.
     pub fn can_be_off(self) -> bool
         ensures { result ≡ may_be_off self }
     {
+        self.work().can_stop()
+    }
+}
+
+/// What is known of a rule, in one row.
+fn row(number: u32, name: &'static str, work: Work) -> Facts
+    ensures number { result.number ≡ number }
+    ensures name { result.name.now ≡ name.now }
+    ensures work { result.work ≡ work }
+{
+    Facts { number, name, work }
+}
+
+impl Work {
+    fn limit(self) -> u32
+        ensures { result ≡ most_results self }
+    {
         match self {
-            Rule::ExpandNAry => false,
-            Rule::JoinCommute => true,
-            Rule::JoinAssociate => true,
-            Rule::SplitAgg => true,
-            Rule::GetToScan => true,
-            Rule::GetToIndexScan => true,
-            Rule::SelectToFilter => true,
-            Rule::SelectToIndexSeek => true,
-            Rule::JoinToHash => true,
-            Rule::JoinToMerge => true,
-            Rule::JoinToLoop => true,
-            Rule::AggToHash => true,
-            Rule::AggToStream => true,
-            Rule::PartialToHash => true,
+            Explores(_) => 1,
+            Implements(condition) => condition.limit(),
+        }
+    }
+
+    fn explores(self) -> bool
+        ensures { result ≡ is_exploring self }
+    {
+        match self {
+            Explores(_) => true,
+            Implements(_) => false,
+        }
+    }
+
+    fn binds(self) -> bool
+        ensures { result ≡ is_binding self }
+    {
+        match self {
+            Explores(way) => way.binds(),
+            Implements(_) => false,
+        }
+    }
+
+    fn can_stop(self) -> bool
+        ensures { result ≡ can_stop self }
+    {
+        match self {
+            Explores(way) => way.can_stop(),
+            Implements(_) => true,
+        }
+    }
+}
+
+impl Exploration {
+    fn binds(self) -> bool
+        ensures { result ≡ binds_member self }
+    {
+        match self {
+            Expansion => false,
+            Commutation => false,
+            Association => true,
+            Split => false,
+        }
+    }
+
+    fn can_stop(self) -> bool
+        ensures { result ≡ can_be_without self }
+    {
+        match self {
+            Expansion => false,
+            Commutation => true,
+            Association => true,
+            Split => true,
+        }
+    }
+}
+
+impl Condition {
+    // How many operators it allows at most.
+    fn limit(self) -> u32
+        ensures { result ≡ most_allowed self }
+    {
+        match self {
+            Always => 1,
+            Equated => 1,
+            Grouping => 1,
+            OwnIndex => 16,
+            UsableIndex => 16,
         }
     }
 }

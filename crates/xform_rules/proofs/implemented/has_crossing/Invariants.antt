@@ -1,7 +1,7 @@
 use Rattle.std.proofs.Common.{ℕ, ◌<◌}
 use Rattle.std.specs.Prelude.{IsSome}
 use Rattle.query_core.specs.Crossing.{crossing_of}
-use Rattle.xform_rules.proofs.join_rules.has_crossing.Given as goal
+use Rattle.xform_rules.proofs.implemented.has_crossing.Given as goal
 
 -- no predicate so far equates them
 abbrev pub invariant-loop-pred : goal.invariant-loop-pred

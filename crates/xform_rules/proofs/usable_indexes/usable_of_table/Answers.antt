@@ -1,8 +1,8 @@
 use Rattle.std.proofs.Common.{subst}
-use Rattle.xform_rules.specs.SelectRules.{IsNthUsable}
+use Rattle.xform_rules.specs.UsableIndexes.{IsNthUsable}
 use Rattle.xform_rules.specs.Forms.{Finds}
 use Rattle.xform_rules.proofs.Usable.{few_indexes, nth_of_table, table_at, no_table_at}
-use Rattle.xform_rules.proofs.select_rules.usable_of_table.Goals as goal
+use Rattle.xform_rules.proofs.usable_indexes.usable_of_table.Goals as goal
 
 pub nth_usable-requires : goal.nth_usable-requires
 nth_usable-requires c =

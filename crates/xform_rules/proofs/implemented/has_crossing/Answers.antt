@@ -3,7 +3,7 @@ use Rattle.std.specs.Prelude.{IsSome}
 use Rattle.std.proofs.lemmas.Bool.{false≢true}
 use borrow.Author.Count.{below_more}
 use Rattle.query_core.specs.Crossing.{crossing_of}
-use Rattle.xform_rules.proofs.join_rules.has_crossing.Goals as goal
+use Rattle.xform_rules.proofs.implemented.has_crossing.Goals as goal
 
 -- this predicate doesn't equate them either
 pub loop-pred-preserved : goal.loop-pred-preserved

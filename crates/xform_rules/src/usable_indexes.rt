@@ -1,59 +1,18 @@
-//! The rows that meet a table's own predicates: by a test of each row, or from a usable index.
+//! The usable indexes of a table: those by which its own predicates find rows.
 #![tactic(auto)]
 
-ghost use Rattle.std.specs.Prelude.{ℕ, IsTrue, ◌↔◌, ◌≡◌, ◌≤◌, length, MatchOption};
+ghost use Rattle.std.specs.Prelude.{ℕ, ◌≡◌, ◌≤◌, length};
 ghost use Rattle.xform_rules.specs.Forms.{Finds};
-ghost use Rattle.xform_rules.specs.SelectRules.{is_sought as sought_by, is_literal as literal_by};
-ghost use Rattle.xform_rules.specs.SelectRules.{seeks as seeks_by, is_usable as usable_by};
-ghost use Rattle.xform_rules.specs.SelectRules.{is_sought_column as column_sought};
-ghost use Rattle.xform_rules.specs.SelectRules.{IsNthUsable, HasNthUsable, IsSelect};
-ghost use Rattle.xform_rules.specs.SelectRules.{IsUsableSelect, Filters, SeeksIndex};
+ghost use Rattle.xform_rules.specs.UsableIndexes.{is_sought as sought_by, is_literal as literal_by};
+ghost use Rattle.xform_rules.specs.UsableIndexes.{seeks as seeks_by, is_usable as usable_by};
+ghost use Rattle.xform_rules.specs.UsableIndexes.{is_sought_column as column_sought};
+ghost use Rattle.xform_rules.specs.UsableIndexes.{IsNthUsable, HasNthUsable};
 
 use orca_base::List;
-use query_core::{CmpOp, KeyParts, Logical, Operand, Physical, Pred, Query};
+use query_core::{CmpOp, Operand, Pred, Query};
 
-/// Whether it is the rows that meet a table's own predicates.
-pub fn is_select(from: Logical) -> bool
-    ensures { IsTrue result ↔ IsSelect from }
-{
-    match from {
-        Logical::Select(_) => true,
-        _ => false,
-    }
-}
-
-/// A test of each row.
-pub fn filtered(from: Logical) -> Option<Physical>
-    ensures { Finds (Filters from) result }
-{
-    match from {
-        Logical::Select(child) => Some(Physical::Filter(child)),
-        _ => None,
-    }
-}
-
-/// The rows that the n-th usable index finds.
-pub fn sought(query: &Query, group: KeyParts, from: Logical, n: u32) -> Option<Physical>
-    ensures { Finds (SeeksIndex query.now group from n) result }
-{
-    let index = usable_index(query, group, from, n)?;
-    Some(Physical::IndexSeek(index))
-}
-
-/// The number of the n-th usable index.
-pub fn usable_index(query: &Query, group: KeyParts, from: Logical, n: u32) -> Option<u32>
-    ensures { Finds (IsUsableSelect query.now group from n) result }
-{
-    if !is_select(from) {
-        return None;
-    }
-    match group {
-        KeyParts::Filter(table) => usable_of_table(query, table, n),
-        _ => None,
-    }
-}
-
-fn usable_of_table(query: &Query, table: u32, n: u32) -> Option<u32>
+/// The number of the n-th usable index of a table.
+pub fn usable_of_table(query: &Query, table: u32, n: u32) -> Option<u32>
     ensures { Finds (HasNthUsable query.now table n) result }
 {
     match query.tables.as_slice().get(table as usize) {

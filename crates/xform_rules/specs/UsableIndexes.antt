@@ -1,5 +1,4 @@
--- SelectToFilter and SelectToIndexSeek: the rows that meet a table's own predicates, by a test of each row or from one
--- of its usable indexes.
+-- The usable indexes of a table: those by which its own predicates find rows.
 use Rattle.std.specs.Prelude.{ℕ, Bool, true, false, List, Some, ◌≡◌, ◌==◌, ◌&&◌, slice_get, take, IsTrue}
 use Rattle.std.specs.List.{list_any, count_by}
 use Rattle.std.specs.Option.{option_map_or}
@@ -11,14 +10,6 @@ use Rattle.query_core.specs.declared.predicate.Operand.TheVariants as operands
 use Rattle.query_core.specs.declared.predicate.Pred.{Pred}
 use Rattle.query_core.specs.declared.table.QueryTable.{QueryTable}
 use Rattle.query_core.specs.declared.query.Query.{Query}
-use Rattle.query_core.specs.declared.words.KeyParts.{KeyParts}
-use Rattle.query_core.specs.declared.words.KeyParts.TheVariants as groups
-use Rattle.query_core.specs.declared.expressions.Logical.{Logical}
-use Rattle.query_core.specs.declared.expressions.Logical.TheVariants as logical
-use Rattle.query_core.specs.declared.expressions.Physical.{Physical}
-use Rattle.query_core.specs.declared.expressions.Physical.TheVariants as physical
-
--- ---- usable indexes
 
 -- an index finds rows by each comparison but <>
 abbrev pub is_sought : CmpOp → Bool
@@ -57,21 +48,3 @@ pub record IsNthUsable (q : Query) (t : ℕ) (indexes : List (List ℕ)) (n inde
 abbrev pub HasNthUsable : Query → ℕ → ℕ → ℕ → Type 0
 HasNthUsable q t n index = (table : QueryTable) × (slice_get q.tables t ≡ Some table)
     × IsNthUsable q t table.indexes n index
-
--- ---- the rules
-
--- the rows that meet a table's own predicates
-abbrev pub IsSelect : Logical → Type 0
-IsSelect from = (child : KeyParts) × (from ≡ logical.Select child)
-
--- a test of each row
-abbrev pub Filters : Logical → Physical → Type 0
-Filters from to = (child : KeyParts) × (from ≡ logical.Select child) × (to ≡ physical.Filter child)
-
--- the rows that meet the own predicates of a table, of whose usable indexes the n-th has this number
-abbrev pub IsUsableSelect : Query → KeyParts → Logical → ℕ → ℕ → Type 0
-IsUsableSelect q group from n index = (t : ℕ) × IsSelect from × (group ≡ groups.Filter t) × HasNthUsable q t n index
-
--- the rows that the n-th usable index finds
-abbrev pub SeeksIndex : Query → KeyParts → Logical → ℕ → Physical → Type 0
-SeeksIndex q group from n to = (index : ℕ) × IsUsableSelect q group from n index × (to ≡ physical.IndexSeek index)

@@ -1,9 +1,9 @@
 use Rattle.std.proofs.Common.{◌≡◌, take, arith, ap}
 use Rattle.std.specs.List.{count_by}
 use Rattle.std.proofs.lemmas.List.{take_all}
-use Rattle.xform_rules.specs.SelectRules.{is_usable}
+use Rattle.xform_rules.specs.UsableIndexes.{is_usable}
 use Rattle.xform_rules.proofs.Usable.{counted_with}
-use Rattle.xform_rules.proofs.select_rules.nth_usable.Goals as goal
+use Rattle.xform_rules.proofs.usable_indexes.nth_usable.Goals as goal
 
 -- there are not so many usable indexes
 pub returns : goal.returns
