@@ -74,7 +74,7 @@ motion_gives motions.Broadcast given = refl
 motion_gives (motions.Redistribute list) given = refl
 
 -- it asks for rows that are shared out
-motion_asks : (motion : Motion) (wanted : Request) → below_of (moving motion) wanted ≡ request Spread 0
+pub motion_asks : (motion : Motion) (wanted : Request) → below_of (moving motion) wanted ≡ request Spread 0
 motion_asks motions.Gather wanted = refl
 motion_asks motions.Broadcast wanted = refl
 motion_asks (motions.Redistribute list) wanted = refl
