@@ -1,6 +1,6 @@
 -- The plans below a node, of which the best answers for what it asks are told.
-use Rattle.std.proofs.Common.{◌≡◌, ℕ, ◌+◌, ◌⊎◌, inl, inr, refl, ap, sym, ◌∙◌, subst, arith}
-use Rattle.std.specs.Prelude.{List, [], ◌∷◌, map, Option, None, Some, option_map}
+use Rattle.std.proofs.Common.{◌≡◌, ℕ, ◌+◌, ◌⊎◌, inl, inr, refl, ap, sym, subst, arith}
+use Rattle.std.specs.Prelude.{List, [], ◌∷◌, Option, None, Some, option_map}
 use Rattle.query_core.specs.declared.query.Query.{Query}
 use Rattle.query_core.specs.declared.words.KeyParts.{KeyParts}
 use Rattle.query_core.specs.declared.expressions.Children.{Children}
@@ -8,19 +8,17 @@ use Rattle.query_core.specs.declared.expressions.Children.TheVariants.{Zero, One
 use Rattle.xform_rules.specs.Closure.{IsMember}
 use Rattle.cost_units.specs.Cost.{local_cost}
 use Rattle.request_props.specs.declared.request.Request.{Request}
-use Rattle.request_props.specs.Fitting.{Fits}
 use Rattle.plan_space.specs.Nodes.{Tree, leaf, over, two}
 use Rattle.plan_space.specs.declared.nodes.NodeKind.{NodeKind}
 use Rattle.plan_space.specs.declared.seen.Kid.{Kid}
 use Rattle.plan_space.specs.Gives.{kid_of}
 use Rattle.plan_space.specs.Alternatives.{KidsServe}
 use Rattle.plan_space.specs.Cost.{cost_of, shape_of}
-use Rattle.plan_space.specs.Least.{IsAnswer, IsLeast, HasNoPlan}
+use Rattle.plan_space.specs.Least.{IsAnswer}
 use Rattle.plan_space.specs.Laws.{AreOf, RequestsFit}
 use Rattle.plan_space.specs.Choices.{groups_of, AreLeast, IsNodeOver, LacksOne}
-use Rattle.best_answers.specs.Nodes.{all_nodes}
 use Rattle.best_answers.specs.Answers.{answer_of, costs_below}
-use Rattle.best_answers.specs.Best.{IsBest, AreBest}
+use Rattle.best_answers.specs.Best.{AreBest}
 use Rattle.best_answers.specs.Laws.{BestIsLeast}
 use Rattle.best_answers.specs.declared.best.Best.{Best}
 

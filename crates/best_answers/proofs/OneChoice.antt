@@ -1,5 +1,5 @@
 -- Two choices for one request with one number at the root are one plan.
-use Rattle.std.proofs.Common.{◌≡◌, ℕ, zero, suc, ◌<◌, ◌≤◌, inl, inr, refl, ap, sym, ◌∙◌, subst, arith}
+use Rattle.std.proofs.Common.{◌≡◌, ℕ, ◌<◌, ◌≤◌, refl, ap, sym, ◌∙◌, subst, arith}
 use Rattle.std.specs.Prelude.{List, [], ◌∷◌, length, Some}
 use Rattle.query_core.specs.Expressions.{expr_of, physical_children, IsPacked}
 use Rattle.query_core.specs.declared.query.Query.{Query}
@@ -8,22 +8,20 @@ use Rattle.query_core.specs.declared.expressions.ExprParts.{ExprParts}
 use Rattle.query_core.specs.declared.expressions.PhysicalExpr.{PhysicalExpr}
 use Rattle.xform_rules.specs.Closure.{IsMember}
 use Rattle.request_props.specs.Numbered.{lists_of, orders_of}
-use Rattle.request_props.specs.declared.request.Dist.{Dist}
-use Rattle.request_props.specs.declared.request.Dist.TheVariants.{One, Spread, Copies, Hashed}
 use Rattle.request_props.specs.declared.request.Request.{Request}
 use Rattle.request_props.specs.Fitting.{Fits}
-use Rattle.plan_space.specs.Nodes.{number_of, Tree, over}
-use Rattle.plan_space.specs.declared.nodes.Enforcer.{Enforcer}
-use Rattle.plan_space.specs.declared.nodes.Enforcer.TheVariants as enforcers
+use Rattle.plan_space.specs.Nodes.{number_of, Tree}
 use Rattle.plan_space.specs.declared.nodes.NodeKind.{NodeKind}
 use Rattle.plan_space.specs.declared.nodes.NodeKind.TheVariants as nodes
 use Rattle.plan_space.specs.declared.lines.Line.{Line}
-use Rattle.plan_space.specs.Lines.{line_of, request}
+use Rattle.plan_space.specs.Lines.{line_of}
 use Rattle.plan_space.specs.Alternatives.{IsAlternative, asked_of}
-use Rattle.plan_space.specs.Enforcers.{EnforcedBy, enforced, enforcers_by, enforcers_of, Among}
+use Rattle.plan_space.specs.Enforcers.{EnforcedBy, enforced, below_of, enforcers_of, Among}
 use Rattle.plan_space.specs.Least.{IsLeast}
 use Rattle.plan_space.specs.Choices.{groups_of, IsNodeOver, AreLeast, IsChoice, enforced_choice, native_choice}
-use Rattle.plan_tree.specs.Nodes.{EnforcerInRange, IsInRange}
+use Rattle.plan_space.proofs.MotionLaws.{enforcer_asks}
+use Rattle.plan_tree.proofs.Kept.{enforcer_in_range}
+use Rattle.plan_tree.specs.Nodes.{IsInRange}
 use Rattle.plan_tree.specs.Seen.{root_node}
 use Rattle.best_answers.proofs.Roots.{root_over, over_one}
 
@@ -39,78 +37,20 @@ pub record AreTold (q : Query) : Type 0 where
 
 -- ---- enforcers for a request
 
--- the request has one enforcer with this node
-same_by : (dist : Dist) (order : ℕ) (e f : EnforcedBy) → Among e (enforcers_by dist order)
-    → Among f (enforcers_by dist order) → f.node ≡ e.node → f ≡ e
-same_by One zero e f (inl x) (inl y) same = y ∙ sym x
-same_by One zero e f (inl x) (inr none) same = absurd none
-same_by One zero e f (inr none) y same = absurd none
-same_by Spread zero e f none y same = absurd none
-same_by Copies zero e f (inl x) (inl y) same = y ∙ sym x
-same_by Copies zero e f (inl x) (inr none) same = absurd none
-same_by Copies zero e f (inr none) y same = absurd none
-same_by (Hashed list) zero e f (inl x) (inl y) same = y ∙ sym x
-same_by (Hashed list) zero e f (inl x) (inr none) same = absurd none
-same_by (Hashed list) zero e f (inr none) y same = absurd none
-same_by One (suc o) e f (inl x) (inl y) same = y ∙ sym x
-same_by One (suc o) e f (inl x) (inr (inl y)) same =
-    let never : enforcers.GatherMerge (suc o) ≡ enforcers.Sort (suc o) = sym (ap (λ z. z.node) y) ∙ same
-    ∙ ap (λ z. z.node) x in cc
-same_by One (suc o) e f (inl x) (inr (inr none)) same = absurd none
-same_by One (suc o) e f (inr (inl x)) (inl y) same =
-    let never : enforcers.Sort (suc o) ≡ enforcers.GatherMerge (suc o) = sym (ap (λ z. z.node) y) ∙ same
-    ∙ ap (λ z. z.node) x in cc
-same_by One (suc o) e f (inr (inl x)) (inr (inl y)) same = y ∙ sym x
-same_by One (suc o) e f (inr (inl x)) (inr (inr none)) same = absurd none
-same_by One (suc o) e f (inr (inr none)) y same = absurd none
-same_by Spread (suc o) e f (inl x) (inl y) same = y ∙ sym x
-same_by Spread (suc o) e f (inl x) (inr none) same = absurd none
-same_by Spread (suc o) e f (inr none) y same = absurd none
-same_by Copies (suc o) e f (inl x) (inl y) same = y ∙ sym x
-same_by Copies (suc o) e f (inl x) (inr none) same = absurd none
-same_by Copies (suc o) e f (inr none) y same = absurd none
-same_by (Hashed list) (suc o) e f (inl x) (inl y) same = y ∙ sym x
-same_by (Hashed list) (suc o) e f (inl x) (inr none) same = absurd none
-same_by (Hashed list) (suc o) e f (inr none) y same = absurd none
-
+-- the request has one enforcer with this node, since that says what it asks for
 pub same_enforcer : (wanted : Request) (e f : EnforcedBy) → Among e (enforcers_of wanted)
     → Among f (enforcers_of wanted) → f.node ≡ e.node → f ≡ e
-same_enforcer wanted e f x y same = same_by wanted.dist wanted.order e f x y same
+same_enforcer wanted e f x y same =
+    let below : f.below ≡ e.below = enforcer_asks wanted f y ∙ ap (λ node. below_of node wanted) same
+    ∙ sym (enforcer_asks wanted e x) in
+    ap (λ node. enforced node f.below) same ∙ ap (λ asked. enforced e.node asked) below
 
 module _ (q : Query) (told : AreTold q) (group : KeyParts) where
-  sort_in_range : (dist : Dist) (o : ℕ) (e : EnforcedBy) → Fits q group (request dist (suc o))
-      → e ≡ enforced (enforcers.Sort (suc o)) (request dist 0) → EnforcerInRange e.node
-  sort_in_range dist o e fits is =
-      subst (λ (x : EnforcedBy). EnforcerInRange x.node) (sym is)
-      (record { some = omega arith; few = omega (arith, fits.numbered, told.few_orders) })
-
-  in_range_by : (dist : Dist) (order : ℕ) (e : EnforcedBy) → Fits q group (request dist order)
-      → Among e (enforcers_by dist order) → EnforcerInRange e.node
-  in_range_by One zero e fits (inl is) = subst (λ (x : EnforcedBy). EnforcerInRange x.node) (sym is) tt
-  in_range_by One zero e fits (inr none) = absurd none
-  in_range_by Spread zero e fits none = absurd none
-  in_range_by Copies zero e fits (inl is) = subst (λ (x : EnforcedBy). EnforcerInRange x.node) (sym is) tt
-  in_range_by Copies zero e fits (inr none) = absurd none
-  in_range_by (Hashed list) zero e fits (inl is) =
-      subst (λ (x : EnforcedBy). EnforcerInRange x.node) (sym is) (omega (arith, fits.dist.numbered, told.few_lists))
-  in_range_by (Hashed list) zero e fits (inr none) = absurd none
-  in_range_by One (suc o) e fits (inl is) = sort_in_range One o e fits is
-  in_range_by One (suc o) e fits (inr (inl is)) =
-      subst (λ (x : EnforcedBy). EnforcerInRange x.node) (sym is)
-      (record { some = omega arith; few = omega (arith, fits.numbered, told.few_orders) })
-  in_range_by One (suc o) e fits (inr (inr none)) = absurd none
-  in_range_by Spread (suc o) e fits (inl is) = sort_in_range Spread o e fits is
-  in_range_by Spread (suc o) e fits (inr none) = absurd none
-  in_range_by Copies (suc o) e fits (inl is) = sort_in_range Copies o e fits is
-  in_range_by Copies (suc o) e fits (inr none) = absurd none
-  in_range_by (Hashed list) (suc o) e fits (inl is) = sort_in_range (Hashed list) o e fits is
-  in_range_by (Hashed list) (suc o) e fits (inr none) = absurd none
-
   -- a choice's root has a number of its own
   pub choice_in_range : (wanted : Request) (plan : Tree) → Fits q group wanted
       → IsChoice (IsMember q) q group wanted plan → IsInRange (root_node plan)
   choice_in_range wanted plan fits (enforced_choice e kid among least is) =
-      subst (λ t. IsInRange (root_node t)) (sym is) (in_range_by wanted.dist wanted.order e fits among)
+      subst (λ t. IsInRange (root_node t)) (sym is) (enforcer_in_range q told.few_lists told.few_orders group wanted e fits among)
   choice_in_range wanted plan fits (native_choice e mode line kids member of_group alternative least is) =
       subst IsInRange (sym (root_over (nodes.Native e mode) kids plan is)) (record {
         packed = told.packed (expr_of e) member;

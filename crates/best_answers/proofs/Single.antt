@@ -10,7 +10,6 @@ use Rattle.cost_units.specs.Cost.{local_cost}
 use Rattle.request_props.specs.declared.request.Request.{Request}
 use Rattle.request_props.specs.Fitting.{Fits}
 use Rattle.plan_space.specs.Nodes.{Tree, over}
-use Rattle.plan_space.specs.declared.nodes.NodeKind.{NodeKind}
 use Rattle.plan_space.specs.declared.nodes.NodeKind.TheVariants as nodes
 use Rattle.plan_space.specs.declared.lines.Line.{Line}
 use Rattle.plan_space.specs.Gives.{kid_of}
@@ -19,11 +18,11 @@ use Rattle.plan_space.specs.Enforcers.{EnforcedBy, enforcers_of, Among}
 use Rattle.plan_space.specs.Cost.{cost_of, shape_of, most_of_all}
 use Rattle.plan_space.specs.Least.{IsAnswer, IsLeast}
 use Rattle.plan_space.specs.Laws.{RequestsFit, ChoiceCostsFit}
-use Rattle.plan_space.specs.Choices.{groups_of, AreLeast, IsNodeOver, enforced_choice, native_choice, Beats}
+use Rattle.plan_space.specs.Choices.{groups_of, AreLeast, enforced_choice, native_choice}
 use Rattle.plan_space.specs.Choices.{IsEnforcerSettled, IsLineSettled, IsModeSettled}
 use Rattle.plan_tree.specs.Costs.{IsNativeCost, IsEnforcerCost}
 use Rattle.plan_tree.specs.Seen.{root_node}
-use Rattle.best_answers.specs.Nodes.{Nodes, one_node, all_nodes, IsIn}
+use Rattle.best_answers.specs.Nodes.{one_node, all_nodes}
 use Rattle.best_answers.specs.Answers.{pair, answer_of, costs_below, best_over}
 use Rattle.best_answers.specs.Best.{IsChoiceIn, IsLeastIn, IsBest, AreBest}
 use Rattle.best_answers.specs.Laws.{BestIsLeast}

@@ -12,7 +12,7 @@ use Rattle.plan_space.specs.Nodes.{Tree, over, two}
 use Rattle.plan_space.specs.declared.nodes.NodeKind.TheVariants as nodes
 use Rattle.plan_space.specs.Gives.{kid_of, gives}
 use Rattle.plan_space.specs.Valid.{IsValid}
-use Rattle.request_props.specs.Classes.{class_of}
+use Rattle.request_props.specs.Dists.{class_of}
 use Rattle.plan_space.specs.Cost.{cost_of}
 use Rattle.plan_space.specs.Alternatives.{KidsServe}
 use Rattle.plan_space.specs.Least.{Serves}

@@ -1,10 +1,12 @@
 -- The enforcers for a request, by their places: there are two at most.
-use Rattle.std.proofs.Common.{◌≡◌, ◌⊎◌, ℕ, zero, suc, ◌≤◌, List, [], ◌∷◌, length, sym, ap, inl, inr, arith}
+use Rattle.std.proofs.Common.{◌≡◌, ◌⊎◌, ℕ, zero, suc, ◌≤◌, Bool, true, false, Option, None, List, [], ◌∷◌, length, sym}
+use Rattle.std.proofs.Common.{ap, inl, inr, arith}
 use Rattle.std.specs.Prelude.{slice_get, Some}
 use Rattle.request_props.specs.declared.request.Dist.{Dist}
-use Rattle.request_props.specs.declared.request.Dist.TheVariants.{One, Spread, Copies, Hashed}
 use Rattle.request_props.specs.declared.request.Request.{Request}
-use Rattle.plan_space.specs.Enforcers.{EnforcedBy, enforcers_by, enforcers_of, Among}
+use Rattle.plan_space.specs.declared.nodes.Motion.{Motion}
+use Rattle.plan_space.specs.Enforcers.{EnforcedBy, motion_to, merges_to, motions_in, mergers_if, enforcers_by}
+use Rattle.plan_space.specs.Enforcers.{enforcers_of, Among}
 
 -- an enforcer at a place of a list is one of the list
 pub among_at : (list : List EnforcedBy) (place : ℕ) (e : EnforcedBy) → slice_get list place ≡ Some e → Among e list
@@ -12,16 +14,18 @@ among_at [] place e is = cc
 among_at (first ∷ others) zero e is = inl cc
 among_at (first ∷ others) (suc place) e is = inr (among_at others place e is)
 
+pub one_motion : (found : Option Motion) → length (motions_in found) ≤ 1
+one_motion None = omega arith
+one_motion (Some motion) = omega arith
+
+one_merge : (merged : Bool) (order : ℕ) → length (mergers_if merged order) ≤ 1
+one_merge false order = omega arith
+one_merge true order = omega arith
+
 -- there are at most two enforcers for a distribution and an order
 pub few_by : (dist : Dist) (order : ℕ) → length (enforcers_by dist order) ≤ 2
-few_by One zero = omega arith
-few_by Spread zero = omega arith
-few_by Copies zero = omega arith
-few_by (Hashed list) zero = omega arith
-few_by One (suc o) = omega arith
-few_by Spread (suc o) = omega arith
-few_by Copies (suc o) = omega arith
-few_by (Hashed list) (suc o) = omega arith
+few_by dist zero = omega (arith, one_motion (motion_to dist))
+few_by dist (suc o) = omega (arith, one_merge (merges_to dist) (suc o))
 
 -- of at most two each is at one of the first two places
 at_either : (list : List EnforcedBy) → length list ≤ 2 → (e : EnforcedBy) → Among e list → (slice_get list 0 ≡ Some e)

@@ -1,7 +1,7 @@
 -- What it says that a line asks what fits its children and gives what lies in its group, and when the parts of a line
 -- do.
 use Rattle.std.proofs.Common.{◌≡◌, ℕ, ◌*◌, ◌/◌, ◌^◌, List, [], sym, subst, arith, IsTrue}
-use Rattle.std.specs.Prelude.{Some, None, ◌==◌, ⊤}
+use Rattle.std.specs.Prelude.{Option, Some, None, ◌==◌, ⊤}
 use Rattle.std.specs.List.{Contains}
 use Rattle.std.specs.Option.{option_map_or}
 use Rattle.std.proofs.lemmas.Bool.{cond_both}
@@ -19,11 +19,11 @@ use Rattle.request_props.specs.declared.given.GivenDist.TheVariants as given
 use Rattle.request_props.specs.Numbered.{IsNumbered, order_of, list_of, is_grouped_list, column_order, column_list}
 use Rattle.request_props.specs.Satisfied.{given_order}
 use Rattle.request_props.specs.declared.request.Dist.{Dist}
-use Rattle.request_props.specs.declared.request.Dist.TheVariants as dists
 use Rattle.request_props.specs.declared.request.Request.{Request}
 use Rattle.plan_space.specs.Gives.{gives_so}
 use Rattle.request_props.specs.Lying.{ListLiesIn, OrderLiesIn}
-use Rattle.request_props.specs.Fitting.{HashFits, DistFits, Fits}
+use Rattle.request_props.specs.Dists.{list_given, list_asked}
+use Rattle.request_props.specs.Fitting.{HashFits, ListFits, DistFits, Fits}
 use Rattle.plan_space.specs.Lines.{request, in_order, on_hashed}
 use Rattle.plan_space.specs.declared.lines.LeftDist.{LeftDist}
 use Rattle.plan_space.specs.declared.lines.LeftDist.TheVariants as left_dists
@@ -132,16 +132,18 @@ top_dists_fit q set =
     (λ several dist lies. lies)
 
 module _ (q : Query) (group left : KeyParts) (kept : HasItemsOf q group left) where
-  -- what fits the left child fits each group that has its items
-  pub dist_kept : (dist : GivenDist) → GivenDistFits q left dist → GivenDistFits q group dist
-  dist_kept given.One fits = tt
-  dist_kept (given.Hashed list) fits = record {
+  -- a list that fits the left child fits each group that has its items
+  pub list_kept : (list : Option ℕ) → ListFits q left list → ListFits q group list
+  list_kept None fits = tt
+  list_kept (Some list) fits = record {
     numbered = fits.numbered;
     lies_in = All-weaker (λ i. IsTrue (has_item q left i)) (λ i. IsTrue (has_item q group i)) kept (list_of q list)
         fits.lies_in;
   }
-  dist_kept given.Random fits = tt
-  dist_kept given.Copies fits = tt
+
+  -- so does a distribution
+  dist_kept : (dist : GivenDist) → GivenDistFits q left dist → GivenDistFits q group dist
+  dist_kept dist = list_kept (list_given dist)
 
   -- so it lies there, where the rows of the left child lie by its items
   pub dist_passes : DistsFit q left → (dist : GivenDist) → DistLiesIn q left dist → DistLiesIn q group dist
@@ -218,10 +220,7 @@ module _ (q : Query) (left : KeyParts) where
 module _ (q : Query) (group child : KeyParts) (kept : HasItemsOf q child group) where
   -- a distribution that is asked of a group fits each child that has the group's items
   pub dist_asked_kept : (dist : Dist) → DistFits q group dist → DistFits q child dist
-  dist_asked_kept dists.One fits = tt
-  dist_asked_kept dists.Spread fits = tt
-  dist_asked_kept dists.Copies fits = tt
-  dist_asked_kept (dists.Hashed list) fits = dist_kept q child group kept (given.Hashed list) fits
+  dist_asked_kept dist = list_kept q child group kept (list_asked dist)
 
   -- so does an order
   pub order_asked_kept : (order : List ℕ) → OrderLiesIn q group order → OrderLiesIn q child order

@@ -1,5 +1,5 @@
 -- What a valid plan gives lies in its group.
-use Rattle.std.proofs.Common.{◌≡◌, List, [], ◌∷◌, refl, subst}
+use Rattle.std.proofs.Common.{◌≡◌, List, [], ◌∷◌, refl, sym, subst}
 use Rattle.std.specs.Prelude.{Option, Some, None}
 use Rattle.query_core.specs.Expressions.{expr_of, physical_children, IsCandidate}
 use Rattle.query_core.specs.declared.query.Query.{Query}
@@ -8,14 +8,13 @@ use Rattle.query_core.specs.declared.expressions.Children.{Children}
 use Rattle.query_core.specs.declared.expressions.ExprParts.{ExprParts}
 use Rattle.request_props.specs.Satisfied.{given_order}
 use Rattle.request_props.specs.declared.given.GivenDist.{GivenDist}
-use Rattle.request_props.specs.declared.given.GivenDist.TheVariants.{One, Hashed, Copies}
+use Rattle.request_props.specs.declared.given.GivenDist.TheVariants.{One}
 use Rattle.request_props.specs.declared.given.GivenOrder.{GivenOrder}
 use Rattle.request_props.specs.Lying.{OrderLiesIn}
 use Rattle.plan_space.specs.Nodes.{Tree, leaf, over, two}
 use Rattle.plan_space.specs.declared.nodes.NodeKind.{NodeKind}
 use Rattle.plan_space.specs.declared.nodes.NodeKind.TheVariants as nodes
 use Rattle.plan_space.specs.declared.nodes.Enforcer.{Enforcer}
-use Rattle.plan_space.specs.declared.nodes.Enforcer.TheVariants as enforcers
 use Rattle.plan_space.specs.Lines.{line_of}
 use Rattle.plan_space.specs.declared.lines.LeftDist.{LeftDist}
 use Rattle.plan_space.specs.declared.lines.LeftDist.TheVariants as left_dists
@@ -28,6 +27,8 @@ use Rattle.plan_space.specs.Gives.{first_group, first_given, left_dist, left_ord
 use Rattle.plan_space.specs.Gives.{gives_by, enforcer_gives, node_group, node_gives, kid_of, gives}
 use Rattle.plan_space.specs.Valid.{DistNeeds, LeftNeeds, OverOne, LineFits, FitsBy, EnforcerFits, NodeFits, IsValid}
 use Rattle.plan_space.specs.Laws.{DistLiesIn, GivenFits, KidsFit}
+use Rattle.plan_space.specs.Enforcers.{moved_by}
+use Rattle.plan_space.proofs.MotionLaws.{enforcer_cases, motion_gives, motion_needs}
 use Rattle.plan_space.proofs.Numbers.{ListingIsOne}
 use Rattle.plan_space.proofs.Candidates.{candidate_line_fits}
 use Rattle.plan_space.proofs.Fitting.{DistWithin, OrderWithin, LeftWithin, IsFitting, no_order_fits, dist_lies}
@@ -92,15 +93,15 @@ module _ (q : Query) where
   -- an enforcer gives what lies in the group of its kid
   enforcer_gives_fits : (e : Enforcer) (kid : Kid) → EnforcerFits q e kid → GivenFits q kid.group kid.given
       → GivenFits q kid.group (enforcer_gives e kid.given)
-  enforcer_gives_fits enforcers.Gather kid can fits =
-      record { dist = dist_lies q kid.group One tt; order = (no_order_fits q kid.group).1 }
-  enforcer_gives_fits enforcers.Broadcast kid can fits =
-      record { dist = dist_lies q kid.group Copies tt; order = (no_order_fits q kid.group).1 }
-  enforcer_gives_fits (enforcers.Sort order) kid can fits = record { dist = fits.dist; order = can.lies_in }
-  enforcer_gives_fits (enforcers.GatherMerge order) kid can fits =
-      record { dist = dist_lies q kid.group One tt; order = can.can_sort.lies_in }
-  enforcer_gives_fits (enforcers.Redistribute list) kid can fits =
-      record { dist = dist_lies q kid.group (Hashed list) can.hash_fits; order = (no_order_fits q kid.group).1 }
+  enforcer_gives_fits e kid =
+      enforcer_cases (λ (e : Enforcer). EnforcerFits q e kid → GivenFits q kid.group kid.given
+      → GivenFits q kid.group (enforcer_gives e kid.given))
+      (λ motion can fits. subst (GivenFits q kid.group) (sym (motion_gives motion kid.given)) (record {
+        dist = dist_lies q kid.group (moved_by motion) (motion_needs q motion kid can).1;
+        order = (no_order_fits q kid.group).1;
+      }))
+      (λ order can fits. record { dist = fits.dist; order = can.lies_in })
+      (λ order can fits. record { dist = dist_lies q kid.group One tt; order = can.can_sort.lies_in }) e
 
   -- and it has one kid
   over_one_fits : (e : Enforcer) (kids : List Kid) → OverOne (EnforcerFits q e) kids → KidsFit q kids

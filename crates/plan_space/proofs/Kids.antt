@@ -18,7 +18,7 @@ use Rattle.plan_space.specs.declared.lines.Line.TheVariants as lines
 use Rattle.plan_space.specs.declared.seen.Kid.{Kid}
 use Rattle.plan_space.specs.Gives.{kid_of, gives, first_given, left_dist, gives_by, native_gives}
 use Rattle.plan_space.specs.Valid.{OneFits, TwoFit, OverOne, OverTwo, FitsBy, IsValid}
-use Rattle.request_props.specs.Classes.{class_of}
+use Rattle.request_props.specs.Dists.{class_of}
 use Rattle.plan_space.specs.Cost.{share_of, first_share, second_share, operator_shape, native_shape}
 use Rattle.plan_space.specs.Choices.{groups_of}
 use Rattle.plan_space.specs.Laws.{GivenFits, KidsFit, AreOf}

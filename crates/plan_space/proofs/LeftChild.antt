@@ -1,23 +1,23 @@
 -- A line goes with its left child: it meets a request exactly where it is there for the request and the child gives
 -- what is asked of it.
-use Rattle.std.proofs.Common.{◌≡◌, ℕ, ◌/◌, List, [], ◌∷◌, IsTrue, refl, subst}
+use Rattle.std.proofs.Common.{ℕ, ◌/◌, List, [], ◌∷◌, IsTrue, subst, sym, ◌∙◌}
 use Rattle.query_core.specs.Keys.{has_item}
-use Rattle.std.specs.Prelude.{All}
+use Rattle.std.specs.Prelude.{All, ⊤}
 use Rattle.std.proofs.lemmas.List.Elements.{All-nil, All-cons, All-head, All-tail}
 use Rattle.query_core.specs.declared.query.Query.{Query}
 use Rattle.query_core.specs.declared.words.KeyParts.{KeyParts}
 use Rattle.cost_units.specs.declared.shape.Class.TheVariants as classes
+use Rattle.request_props.specs.Dists.{class_asked, list_given, list_asked}
 use Rattle.request_props.specs.Numbered.{IsNumbered, order_of}
 use Rattle.request_props.specs.Satisfied.{Meets, BeginsWith, given_order, Satisfies}
 use Rattle.request_props.specs.declared.given.Given.{Given}
 use Rattle.request_props.specs.declared.given.GivenDist.{GivenDist}
-use Rattle.request_props.specs.declared.given.GivenDist.TheVariants as given
 use Rattle.request_props.specs.declared.given.GivenOrder.{GivenOrder}
 use Rattle.request_props.specs.declared.request.Dist.{Dist}
-use Rattle.request_props.specs.declared.request.Dist.TheVariants as dists
 use Rattle.request_props.specs.declared.request.Request.{Request}
 use Rattle.request_props.specs.Lying.{OrderLiesIn}
 use Rattle.request_props.specs.Fitting.{DistFits, Fits}
+use Rattle.request_props.proofs.Agreeing.{class_parts, in_class, met_class, met_list, met_list_fits}
 use Rattle.plan_space.specs.declared.lines.LeftDist.{LeftDist}
 use Rattle.plan_space.specs.declared.lines.LeftDist.TheVariants as left_dists
 use Rattle.plan_space.specs.declared.lines.LeftOrder.{LeftOrder}
@@ -32,41 +32,19 @@ use Rattle.plan_space.proofs.Fitting.{FixedDistFits, FixedOrderFits, LeftFits}
 
 -- rows that are spread meet only what asks for spread rows
 wants_spread : (gives : GivenDist) (wanted : Dist) → IsSpread gives → Meets gives wanted → WantsSpread wanted
-wants_spread given.One wanted spread meets = let never : classes.One ≡ classes.Spread = spread in cc
-wants_spread given.Copies wanted spread meets = let never : classes.Copies ≡ classes.Spread = spread in cc
-wants_spread (given.Hashed list) dists.One spread meets = absurd meets
-wants_spread (given.Hashed list) dists.Spread spread meets = tt
-wants_spread (given.Hashed list) dists.Copies spread meets = absurd meets
-wants_spread (given.Hashed list) (dists.Hashed other) spread meets = tt
-wants_spread given.Random dists.One spread meets = absurd meets
-wants_spread given.Random dists.Spread spread meets = tt
-wants_spread given.Random dists.Copies spread meets = absurd meets
-wants_spread given.Random (dists.Hashed other) spread meets = absurd meets
+wants_spread gives wanted spread meets =
+    in_class classes.Spread (class_asked wanted) ⊤ (sym spread ∙ met_class gives wanted meets) tt
 
 -- rows that meet what asks for spread rows are spread
 meets_spread : (gives : GivenDist) (wanted : Dist) → WantsSpread wanted → Meets gives wanted → IsSpread gives
-meets_spread given.One dists.One wants meets = absurd wants
-meets_spread given.One dists.Spread wants meets = absurd meets
-meets_spread given.One dists.Copies wants meets = absurd wants
-meets_spread given.One (dists.Hashed other) wants meets = absurd meets
-meets_spread given.Copies dists.One wants meets = absurd wants
-meets_spread given.Copies dists.Spread wants meets = absurd meets
-meets_spread given.Copies dists.Copies wants meets = absurd wants
-meets_spread given.Copies (dists.Hashed other) wants meets = absurd meets
-meets_spread (given.Hashed list) wanted wants meets = refl
-meets_spread given.Random wanted wants meets = refl
+meets_spread gives wanted wants meets =
+    met_class gives wanted meets ∙ sym (class_parts classes.Spread (class_asked wanted) ⊤ wants).0
 
--- a hashed distribution that is met is the one that is given
+-- a distribution that is met fits where the one that is given does
 met_fits : (q : Query) (group : KeyParts) (gives : GivenDist) (wanted : Dist) → GivenDistFits q group gives
     → Meets gives wanted → DistFits q group wanted
-met_fits q group gives dists.One fits meets = tt
-met_fits q group gives dists.Spread fits meets = tt
-met_fits q group gives dists.Copies fits meets = tt
-met_fits q group given.One (dists.Hashed list) fits meets = absurd meets
-met_fits q group (given.Hashed other) (dists.Hashed list) fits meets =
-    subst (λ l. DistFits q group (dists.Hashed l)) meets fits
-met_fits q group given.Random (dists.Hashed list) fits meets = absurd meets
-met_fits q group given.Copies (dists.Hashed list) fits meets = absurd meets
+met_fits q group gives wanted fits meets =
+    met_list_fits q group (list_given gives) (list_asked wanted) (met_list gives wanted meets) fits
 
 -- what holds of each element of an order holds of each of one that it begins with
 begin_all : (P : ℕ → Type 0) (xs ys : List ℕ) → BeginsWith xs ys → All P xs → All P ys

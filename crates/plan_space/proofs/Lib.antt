@@ -8,6 +8,7 @@ pub mod Grouped
 pub mod WayShapes
 pub mod Candidates
 pub mod Given
+pub mod MotionLaws
 pub mod Enforcers
 pub mod LeftChild
 pub mod Splits

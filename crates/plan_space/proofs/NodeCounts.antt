@@ -1,19 +1,17 @@
 -- How many nodes a least plan may have: a motion where the rows aren't spread, a sort where an order is asked for,
 -- and the nodes below.
 use Rattle.std.proofs.Common.{ℕ, zero, suc, ◌≤◌, ◌+◌, ◌*◌, ◌-◌, arith}
-use Rattle.std.specs.Prelude.{List, [], ◌∷◌}
+use Rattle.std.specs.Prelude.{List, [], ◌∷◌, length}
 use Rattle.query_core.specs.Keys.{IsInRange}
 use Rattle.query_core.specs.declared.words.KeyParts.{KeyParts}
 use Rattle.query_core.specs.declared.words.KeyParts.TheVariants as groups
 use Rattle.request_props.specs.declared.request.Dist.{Dist}
-use Rattle.request_props.specs.declared.request.Dist.TheVariants.{One, Spread, Copies, Hashed}
 use Rattle.request_props.specs.declared.request.Request.{Request}
+use Rattle.plan_space.specs.Enforcers.{motion_to, motions_of}
+use Rattle.plan_space.proofs.Enforcers.{one_motion}
 
 abbrev pub dist_nodes : Dist → ℕ
-dist_nodes One = 1
-dist_nodes Spread = 0
-dist_nodes Copies = 1
-dist_nodes (Hashed list) = 1
+dist_nodes dist = length (motions_of dist)
 
 abbrev pub order_nodes : ℕ → ℕ
 order_nodes zero = 0
@@ -35,19 +33,13 @@ abbrev pub nodes_below : List KeyParts → ℕ
 nodes_below [] = 0
 nodes_below (group ∷ groups) = group_nodes group + 2 + nodes_below groups
 
-dist_few : (dist : Dist) → dist_nodes dist ≤ 1
-dist_few One = omega arith
-dist_few Spread = omega arith
-dist_few Copies = omega arith
-dist_few (Hashed list) = omega arith
-
 order_few : (order : ℕ) → order_nodes order ≤ 1
 order_few zero = omega arith
 order_few (suc order) = omega arith
 
 -- a request wants two enforcers at most
 pub request_few : (group : KeyParts) (wanted : Request) → most_nodes group wanted ≤ group_nodes group + 2
-request_few group wanted = omega (arith, dist_few wanted.dist, order_few wanted.order)
+request_few group wanted = omega (arith, one_motion (motion_to wanted.dist), order_few wanted.order)
 
 -- each plan may have a node
 pub some_nodes : (group : KeyParts) → 1 ≤ group_nodes group

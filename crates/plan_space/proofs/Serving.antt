@@ -1,96 +1,90 @@
 -- A choice serves the request.
-use Rattle.std.proofs.Common.{◌≡◌, ℕ, zero, suc, List, [], ◌∷◌, inl, inr, refl, sym, subst, arith}
+use Rattle.std.proofs.Common.{◌≡◌, ℕ, ◌≤◌, List, [], ◌∷◌, inl, inr, sym, subst}
 use Rattle.query_core.specs.Expressions.{expr_of, physical_children}
 use Rattle.query_core.specs.declared.query.Query.{Query}
 use Rattle.query_core.specs.declared.words.KeyParts.{KeyParts}
 use Rattle.query_core.specs.declared.expressions.ExprParts.{ExprParts}
 use Rattle.query_core.specs.declared.expressions.PhysicalExpr.{PhysicalExpr}
 use Rattle.request_props.specs.Numbered.{order_of}
-use Rattle.request_props.specs.Satisfied.{Satisfies}
+use Rattle.request_props.specs.Dists.{list_given}
+use Rattle.request_props.specs.Satisfied.{Meets, Satisfies}
+use Rattle.request_props.specs.declared.given.GivenDist.TheVariants.{One}
 use Rattle.request_props.specs.declared.request.Dist.{Dist}
-use Rattle.request_props.specs.declared.request.Dist.TheVariants.{One, Spread, Copies, Hashed}
+use Rattle.request_props.specs.declared.request.Dist.TheVariants.{Spread}
 use Rattle.request_props.specs.declared.request.Request.{Request}
 use Rattle.request_props.specs.Lying.{OrderLiesIn}
-use Rattle.request_props.specs.Fitting.{HashFits, Fits}
+use Rattle.request_props.specs.Fitting.{ListFits, DistFits, Fits}
 use Rattle.plan_space.specs.Nodes.{Tree, over}
 use Rattle.plan_space.specs.declared.nodes.NodeKind.TheVariants as nodes
 use Rattle.plan_space.specs.declared.nodes.Enforcer.TheVariants as enforcers
 use Rattle.plan_space.specs.Lines.{request}
-use Rattle.plan_space.specs.Gives.{gives, native_gives}
+use Rattle.plan_space.specs.declared.nodes.Motion.{Motion}
+use Rattle.plan_space.specs.declared.nodes.Motion.TheVariants as motions
+use Rattle.plan_space.specs.Gives.{kid_of, gives, native_gives}
 use Rattle.plan_space.specs.Valid.{NativeFits}
 use Rattle.plan_space.specs.Alternatives.{asked_of, KidsServe}
-use Rattle.plan_space.specs.Enforcers.{EnforcedBy, enforcers_by, Among}
+use Rattle.plan_space.specs.Enforcers.{EnforcedBy, moved_by, moving, enforcers_by, Among, BringsTo}
 use Rattle.plan_space.specs.Least.{Serves}
 use Rattle.plan_space.specs.Choices.{IsNodeOver, groups_of, AreLeast, IsChoice, enforced_choice, native_choice}
 use Rattle.plan_space.specs.Laws.{AreOf, SatisfactionJoins}
-use Rattle.plan_space.proofs.Exchange.{BeginsWith-refl, met_spread}
+use Rattle.request_props.proofs.Agreeing.{met_spread}
+use Rattle.plan_space.proofs.Exchange.{BeginsWith-refl}
+use Rattle.plan_space.proofs.MotionLaws.{motion_brings, motion_gives, motion_fits, enforcer_for}
 use Rattle.plan_space.proofs.Kids.{sights, AreValid}
 
 module _ (Member : ExprParts → Type 0) (q : Query) (group : KeyParts) where
   module _ (kid : Tree) where
-    gather_serves : Serves Member q group (request Spread 0) kid
-        → Serves Member q group (request One 0) (over (nodes.Enforcer enforcers.Gather) kid)
-    gather_serves serves = record {
-      valid = (serves.valid, met_spread (gives q kid).dist serves.satisfies.dist);
-      of_group = serves.of_group;
-      satisfies = record { dist = tt; order = tt };
-    }
-
-    broadcast_serves : Serves Member q group (request Spread 0) kid
-        → Serves Member q group (request Copies 0) (over (nodes.Enforcer enforcers.Broadcast) kid)
-    broadcast_serves serves = record {
-      valid = (serves.valid, met_spread (gives q kid).dist serves.satisfies.dist);
-      of_group = serves.of_group;
-      satisfies = record { dist = tt; order = tt };
-    }
-
-    redistribute_serves : (list : ℕ) → HashFits q group list → Serves Member q group (request Spread 0) kid
-        → Serves Member q group (request (Hashed list) 0) (over (nodes.Enforcer (enforcers.Redistribute list)) kid)
-    redistribute_serves list fits serves = record {
-      valid = (
-        serves.valid,
+    -- a motion over spread rows serves each distribution to which it brings them
+    motion_serves : (motion : Motion) (dist : Dist) → BringsTo motion dist → DistFits q group dist
+        → Serves Member q group (request Spread 0) kid
+        → Serves Member q group (request dist 0) (over (nodes.Enforcer (moving motion)) kid)
+    motion_serves motion dist brings fits serves =
+        let own = subst (ListFits q group) (sym brings.by_list) fits in
         record {
-          is_spread = met_spread (gives q kid).dist serves.satisfies.dist;
-          hash_fits = subst (λ (g : KeyParts). HashFits q g list) (sym serves.of_group) fits;
-        },
-      );
-      of_group = serves.of_group;
-      satisfies = record { dist = refl; order = tt };
-    }
+          valid = (
+            serves.valid,
+            motion_fits q motion (kid_of q kid) (met_spread (gives q kid).dist serves.satisfies.dist)
+                (subst (λ (g : KeyParts). ListFits q g (list_given (moved_by motion))) (sym serves.of_group) own),
+          );
+          of_group = serves.of_group;
+          satisfies = subst (λ given. Satisfies q given (request dist 0)) (sym (motion_gives motion (gives q kid)))
+              (record { dist = brings.meets; order = tt });
+        }
 
-    sort_serves : (dist : Dist) (o : ℕ) → Fits q group (request dist (suc o))
+    sort_serves : (dist : Dist) (o : ℕ) → 1 ≤ o → Fits q group (request dist o)
         → Serves Member q group (request dist 0) kid
-        → Serves Member q group (request dist (suc o)) (over (nodes.Enforcer (enforcers.Sort (suc o))) kid)
-    sort_serves dist o fits serves = record {
+        → Serves Member q group (request dist o) (over (nodes.Enforcer (enforcers.Sort o)) kid)
+    sort_serves dist o some fits serves = record {
       valid = (
         serves.valid,
         record {
-          not_empty = omega arith;
+          not_empty = some;
           numbered = fits.numbered;
-          lies_in = subst (λ (g : KeyParts). OrderLiesIn q g (order_of q (suc o))) (sym serves.of_group) fits.order;
+          lies_in = subst (λ (g : KeyParts). OrderLiesIn q g (order_of q o)) (sym serves.of_group) fits.order;
         },
       );
       of_group = serves.of_group;
-      satisfies = record { dist = serves.satisfies.dist; order = BeginsWith-refl (order_of q (suc o)) };
+      satisfies = record { dist = serves.satisfies.dist; order = BeginsWith-refl (order_of q o) };
     }
 
-    merge_serves : (o : ℕ) → Fits q group (request One (suc o)) → Serves Member q group (request Spread (suc o)) kid
-        → Serves Member q group (request One (suc o)) (over (nodes.Enforcer (enforcers.GatherMerge (suc o))) kid)
-    merge_serves o fits serves = record {
+    merge_serves : (dist : Dist) (o : ℕ) → 1 ≤ o → Meets One dist → Fits q group (request dist o)
+        → Serves Member q group (request Spread o) kid
+        → Serves Member q group (request dist o) (over (nodes.Enforcer (enforcers.GatherMerge o)) kid)
+    merge_serves dist o some meets fits serves = record {
       valid = (
         serves.valid,
         record {
           can_sort = record {
-            not_empty = omega arith;
+            not_empty = some;
             numbered = fits.numbered;
-            lies_in = subst (λ (g : KeyParts). OrderLiesIn q g (order_of q (suc o))) (sym serves.of_group) fits.order;
+            lies_in = subst (λ (g : KeyParts). OrderLiesIn q g (order_of q o)) (sym serves.of_group) fits.order;
           };
           is_spread = met_spread (gives q kid).dist serves.satisfies.dist;
           has_order = serves.satisfies.order;
         },
       );
       of_group = serves.of_group;
-      satisfies = record { dist = tt; order = BeginsWith-refl (order_of q (suc o)) };
+      satisfies = record { dist = meets; order = BeginsWith-refl (order_of q o) };
     }
 
     named_serves : (wanted : Request) (e first : EnforcedBy) → e ≡ first
@@ -101,30 +95,18 @@ module _ (Member : ExprParts → Type 0) (q : Query) (group : KeyParts) where
         → Serves Member q group wanted (over (nodes.Enforcer x.node) kid)) (sym same)
 
     -- an enforcer for the request over a plan for what it asks
-    pub enforcer_serves : (dist : Dist) (o : ℕ) (e : EnforcedBy) → Fits q group (request dist o)
-        → Among e (enforcers_by dist o)
-        → Serves Member q group e.below kid → Serves Member q group (request dist o) (over (nodes.Enforcer e.node) kid)
-    enforcer_serves One zero e fits (inl same) = named_serves (request One 0) e _ same gather_serves
-    enforcer_serves One zero e fits (inr none) = absurd none
-    enforcer_serves Spread zero e fits none = absurd none
-    enforcer_serves Copies zero e fits (inl same) = named_serves (request Copies 0) e _ same broadcast_serves
-    enforcer_serves Copies zero e fits (inr none) = absurd none
-    enforcer_serves (Hashed list) zero e fits (inl same) =
-        named_serves (request (Hashed list) 0) e _ same (redistribute_serves list fits.dist)
-    enforcer_serves (Hashed list) zero e fits (inr none) = absurd none
-    enforcer_serves One (suc o) e fits (inl same) = named_serves (request One (suc o)) e _ same (sort_serves One o fits)
-    enforcer_serves One (suc o) e fits (inr (inl same)) =
-        named_serves (request One (suc o)) e _ same (merge_serves o fits)
-    enforcer_serves One (suc o) e fits (inr (inr none)) = absurd none
-    enforcer_serves Spread (suc o) e fits (inl same) =
-        named_serves (request Spread (suc o)) e _ same (sort_serves Spread o fits)
-    enforcer_serves Spread (suc o) e fits (inr none) = absurd none
-    enforcer_serves Copies (suc o) e fits (inl same) =
-        named_serves (request Copies (suc o)) e _ same (sort_serves Copies o fits)
-    enforcer_serves Copies (suc o) e fits (inr none) = absurd none
-    enforcer_serves (Hashed list) (suc o) e fits (inl same) =
-        named_serves (request (Hashed list) (suc o)) e _ same (sort_serves (Hashed list) o fits)
-    enforcer_serves (Hashed list) (suc o) e fits (inr none) = absurd none
+    pub enforcer_serves : (dist : Dist) (order : ℕ) (e : EnforcedBy) → Fits q group (request dist order)
+        → Among e (enforcers_by dist order) → Serves Member q group e.below kid
+        → Serves Member q group (request dist order) (over (nodes.Enforcer e.node) kid)
+    enforcer_serves dist order e fits among = elim (enforcer_for (request dist order) e among) [
+      | inl (motion, is) ↦ named_serves (request dist order) e _ is.same
+          (subst (λ (o : ℕ). Serves Member q group (request Spread 0) kid
+          → Serves Member q group (request dist o) (over (nodes.Enforcer (moving motion)) kid)) (sym is.no_order)
+          (motion_serves motion dist (motion_brings dist motion is.moves) fits.dist))
+      | inr (inl is) ↦ named_serves (request dist order) e _ is.same (sort_serves dist order is.some_order fits)
+      | inr (inr is) ↦ named_serves (request dist order) e _ is.same
+          (merge_serves dist order is.some_order (motion_brings dist motions.Gather is.moves).meets fits)
+    ]
 
   valid_least : (groups : List KeyParts) (wishes : List Request) (plans : List Tree)
       → AreLeast Member q groups wishes plans → AreValid Member q plans

@@ -6,11 +6,13 @@ use Rattle.query_core.specs.declared.words.KeyParts.{KeyParts}
 use Rattle.query_core.specs.declared.expressions.Children.{Children}
 use Rattle.query_core.specs.declared.expressions.Children.TheVariants as arities
 use Rattle.query_core.specs.declared.expressions.PhysicalExpr.{PhysicalExpr}
+use Rattle.cost_units.specs.declared.shape.Class.TheVariants as classes
 use Rattle.request_props.specs.Numbered.{order_of, is_grouped_list}
-use Rattle.request_props.specs.Satisfied.{Meets, BeginsWith, given_order, Satisfies}
+use Rattle.request_props.specs.Dists.{class_asked}
+use Rattle.request_props.specs.Satisfied.{InOneClass, Meets, BeginsWith, given_order, Satisfies}
 use Rattle.request_props.specs.declared.given.GivenDist.TheVariants as given
 use Rattle.request_props.specs.declared.request.Dist.{Dist}
-use Rattle.request_props.specs.declared.request.Dist.TheVariants.{One, Spread, Copies, Hashed}
+use Rattle.request_props.specs.declared.request.Dist.TheVariants.{Hashed}
 use Rattle.request_props.specs.declared.request.Request.{Request}
 use Rattle.request_props.specs.Fitting.{Fits}
 use Rattle.plan_space.specs.Lines.{line_of, request}
@@ -25,10 +27,7 @@ use Rattle.plan_space.specs.Gives.{gives_so}
 
 -- rows on all segments are asked for, each on one of them
 abbrev pub WantsSpread : Dist → Type 0
-WantsSpread One = ⊥
-WantsSpread Spread = ⊤
-WantsSpread Copies = ⊥
-WantsSpread (Hashed list) = ⊤
+WantsSpread dist = InOneClass classes.Spread (class_asked dist) ⊤
 
 -- the distribution that is asked of the left child, where this one is asked for
 abbrev pub dist_asked : LeftDist → Dist → Dist

@@ -17,7 +17,7 @@ use Rattle.plan_space.specs.declared.nodes.Enforcer.{Enforcer}
 use Rattle.plan_space.specs.declared.nodes.Enforcer.TheVariants as enforcers
 use Rattle.plan_space.specs.declared.seen.Kid.{Kid}
 use Rattle.plan_space.specs.Gives.{first_group, native_gives, kid_of}
-use Rattle.request_props.specs.Classes.{class_of}
+use Rattle.request_props.specs.Dists.{class_of}
 
 -- how many of a group's rows the busiest segment has
 abbrev pub share_of : Query → KeyParts → Class → ℕ
@@ -52,13 +52,18 @@ native_shape q e mode kids =
     operator_shape e.operator (first_share q kids) (second_share q kids)
     (share_of q e.group (class_of (native_gives q e mode kids).dist))
 
--- what an enforcer has to do over its kid; a gather, a merge and a broadcast handle all rows of the group
+-- what an enforcer has to do where the group has so many rows, and the busiest segment so many of them; a gather, a
+-- merge and a broadcast handle all rows of the group
+abbrev pub enforcer_work : Enforcer → ℕ → ℕ → CostShape
+enforcer_work enforcers.Gather rows share = shapes.Gather rows
+enforcer_work enforcers.Broadcast rows share = shapes.Broadcast rows
+enforcer_work (enforcers.Sort order) rows share = shapes.Sort share
+enforcer_work (enforcers.GatherMerge order) rows share = shapes.GatherMerge rows
+enforcer_work (enforcers.Redistribute list) rows share = shapes.Redistribute share
+
+-- what an enforcer has to do over its kid
 abbrev pub enforcer_shape : Query → Enforcer → List Kid → CostShape
-enforcer_shape q enforcers.Gather kids = shapes.Gather (rows_of q (first_group kids))
-enforcer_shape q enforcers.Broadcast kids = shapes.Broadcast (rows_of q (first_group kids))
-enforcer_shape q (enforcers.Sort order) kids = shapes.Sort (first_share q kids)
-enforcer_shape q (enforcers.GatherMerge order) kids = shapes.GatherMerge (rows_of q (first_group kids))
-enforcer_shape q (enforcers.Redistribute list) kids = shapes.Redistribute (first_share q kids)
+enforcer_shape q e kids = enforcer_work e (rows_of q (first_group kids)) (first_share q kids)
 
 -- what a node has to do over its kids
 abbrev pub shape_of : Query → NodeKind → List Kid → CostShape

@@ -1,5 +1,6 @@
 -- What holds of all plans of a query.
-use Rattle.std.specs.Prelude.{ℕ, ◌≡◌, ◌<◌, ◌≤◌, ◌↔◌, List, [], ◌∷◌, length, map, Option, Some, ⊤}
+use Rattle.std.specs.Prelude.{ℕ, ◌≡◌, ◌<◌, ◌≤◌, ◌⊎◌, ◌↔◌, List, [], ◌∷◌, length, map, Option}
+use Rattle.std.specs.Prelude.{None, Some, ⊤}
 use Rattle.query_core.specs.Crossing.{crossing_of}
 use Rattle.query_core.specs.Keys.{root_of, key_number}
 use Rattle.query_core.specs.Expressions.{expr_of, physical_children, IsCandidate, IsChild}
@@ -11,13 +12,15 @@ use Rattle.query_core.specs.declared.expressions.PhysicalExpr.{PhysicalExpr}
 use Rattle.xform_rules.specs.Closure.{IsMember}
 use Rattle.request_props.specs.Numbered.{column_list, column_order, lists_of, orders_of, IsProps, root_request}
 use Rattle.request_props.specs.declared.props.Props.{Props}
-use Rattle.request_props.specs.Satisfied.{given_order, Satisfies}
+use Rattle.request_props.specs.Satisfied.{given_order, Meets, Satisfies}
+use Rattle.request_props.specs.declared.request.Dist.{Dist}
+use Rattle.request_props.specs.declared.request.Dist.TheVariants.{Spread}
 use Rattle.request_props.specs.declared.given.Given.{Given}
 use Rattle.request_props.specs.declared.given.GivenDist.{GivenDist}
-use Rattle.request_props.specs.declared.given.GivenDist.TheVariants.{One, Hashed, Random, Copies}
 use Rattle.request_props.specs.declared.request.Request.{Request}
 use Rattle.request_props.specs.Lying.{OrderLiesIn}
-use Rattle.request_props.specs.Fitting.{HashFits, OrderFits, Fits}
+use Rattle.request_props.specs.Dists.{list_given}
+use Rattle.request_props.specs.Fitting.{HashFits, OrderFits, ListFits, Fits}
 use Rattle.plan_space.specs.Nodes.{Tree}
 use Rattle.plan_space.specs.declared.nodes.NodeKind.TheVariants as nodes
 use Rattle.plan_space.specs.Modes.{modes_end}
@@ -28,17 +31,16 @@ use Rattle.plan_space.specs.Gives.{kid_of, gives, native_gives}
 use Rattle.plan_space.specs.Valid.{NativeFits, IsValid}
 use Rattle.plan_space.specs.Alternatives.{IsAlternative, asked_of, KidsServe}
 use Rattle.plan_space.specs.Cost.{cost_of, most_of_all}
-use Rattle.plan_space.specs.Enforcers.{EnforcedBy, enforcers_of, Among}
+use Rattle.plan_space.specs.Enforcers.{EnforcedBy, below_of, enforcers_of, Among, motion_to, moved_by, BringsTo}
+use Rattle.plan_space.specs.Enforcers.{IsEnforcerFor}
+use Rattle.plan_space.specs.declared.nodes.Motion.{Motion}
 use Rattle.plan_space.specs.Choices.{groups_of, IsNodeOver, IsChoice, IsModeSettled, IsSettled}
 use Rattle.plan_space.specs.Choices.{BestServesAtRoot, IsAnswerAtRoot}
 use Rattle.plan_space.specs.Least.{Serves, IsLeast, IsAnswer}
 
--- a hashed distribution fits the group by its list, and each other one does
+-- a distribution fits the group where its list does
 abbrev pub GivenDistFits : Query → KeyParts → GivenDist → Type 0
-GivenDistFits q group One = ⊤
-GivenDistFits q group (Hashed list) = HashFits q group list
-GivenDistFits q group Random = ⊤
-GivenDistFits q group Copies = ⊤
+GivenDistFits q group dist = ListFits q group (list_given dist)
 
 -- so it is in each group, but that the rows of partial groups lie where those of the input lay, by whatever list
 abbrev pub DistLiesIn : Query → KeyParts → GivenDist → Type 0
@@ -184,3 +186,26 @@ abbrev pub ModesAreFew : Query → Type 0
 ModesAreFew q =
     length (lists_of q) ≤ 60 → (e : PhysicalExpr) (mode : ℕ) (line : Line) → line_of q e mode ≡ Some line
     → mode < modes_end
+
+-- ---- motions
+
+-- the motion to a distribution brings rows there
+abbrev pub MotionsBring : Type 0
+MotionsBring = (dist : Dist) (motion : Motion) → motion_to dist ≡ Some motion → BringsTo motion dist
+
+-- no motion has to where rows may lie on any segments, and only there
+abbrev pub NoneMoves : Type 0
+NoneMoves = (dist : Dist) → motion_to dist ≡ None → dist ≡ Spread
+
+-- what a motion brings meets the distribution to which it is the motion, and rows that may lie on any segments
+abbrev pub MotionsServe : Type 0
+MotionsServe =
+    (motion : Motion) (dist : Dist) → Meets (moved_by motion) dist → (dist ≡ Spread) ⊎ (motion_to dist ≡ Some motion)
+
+-- each enforcer for a request moves, sorts or merges for it
+abbrev pub EnforcersAreFor : Type 0
+EnforcersAreFor = (wanted : Request) (e : EnforcedBy) → Among e (enforcers_of wanted) → IsEnforcerFor wanted e
+
+-- and asks for what such an enforcer asks
+abbrev pub EnforcersAsk : Type 0
+EnforcersAsk = (wanted : Request) (e : EnforcedBy) → Among e (enforcers_of wanted) → e.below ≡ below_of e.node wanted

@@ -16,7 +16,7 @@ use Rattle.request_props.specs.declared.request.Dist.TheVariants as dists
 use Rattle.request_props.specs.declared.request.Request.{Request}
 use Rattle.request_props.specs.Lying.{OrderLiesIn}
 use Rattle.request_props.specs.Fitting.{HashFits}
-use Rattle.request_props.specs.Classes.{class_of}
+use Rattle.request_props.specs.Dists.{class_of}
 use Rattle.plan_space.specs.Nodes.{Tree, leaf, over, two}
 use Rattle.plan_space.specs.declared.nodes.NodeKind.{NodeKind}
 use Rattle.plan_space.specs.declared.nodes.NodeKind.TheVariants as nodes

@@ -4,6 +4,7 @@
 mod laws;
 mod lines;
 mod modes;
+mod motions;
 mod nodes;
 mod seen;
 mod ways;
@@ -15,6 +16,7 @@ pub use laws::{
 };
 pub use lines::{LeftDist, LeftOrder, Line};
 pub use modes::{END as MODES_END, Mode, ModeSets};
-pub use nodes::{Enforcer, NodeKind};
+pub use motions::{merges_to, motion_to, motions_are_known, moving};
+pub use nodes::{Enforcer, Motion, NodeKind};
 pub use seen::Kid;
 pub use ways::{GroupBy, JoinBy, Kept, Way};

@@ -18,6 +18,17 @@ pub enum Enforcer {
     Redistribute(u32),
 }
 
+/// How rows that are shared out among the segments are brought elsewhere, in whatever order.
+#[derive(Clone, Copy)]
+pub enum Motion {
+    /// To one segment.
+    Gather,
+    /// All of them to each segment.
+    Broadcast,
+    /// Each to the segment that the hash by the list of this number names.
+    Redistribute(u32),
+}
+
 /// A node of a plan.
 #[derive(Clone, Copy, PartialEq, Eq)]
 pub enum NodeKind {

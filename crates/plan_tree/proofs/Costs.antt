@@ -6,7 +6,7 @@ use Rattle.query_core.specs.declared.words.KeyParts.{KeyParts}
 use Rattle.query_core.specs.declared.expressions.Children.{Children}
 use Rattle.query_core.specs.declared.expressions.Children.TheVariants as arities
 use Rattle.query_core.specs.declared.expressions.PhysicalExpr.{PhysicalExpr}
-use Rattle.request_props.specs.Classes.{class_of, class_asked}
+use Rattle.request_props.specs.Dists.{class_of, class_asked}
 use Rattle.request_props.specs.Satisfied.{Meets, Satisfies}
 use Rattle.request_props.specs.declared.given.GivenDist.{GivenDist}
 use Rattle.request_props.specs.declared.given.GivenDist.TheVariants as given

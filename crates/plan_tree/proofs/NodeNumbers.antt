@@ -26,7 +26,7 @@ native_one one e f mode other x y same =
     cc
 
 -- the numbers of enforcers are small
-enforcer_small : (e : Enforcer) → EnforcerInRange e → enforcer_number e < 256
+pub enforcer_small : (e : Enforcer) → EnforcerInRange e → enforcer_number e < 256
 enforcer_small Gather x = omega arith
 enforcer_small Broadcast x = omega arith
 enforcer_small (Sort o) x = let few = x.few in omega arith

@@ -8,7 +8,7 @@ use Rattle.cardinality.specs.Rows.{rows_of}
 use Rattle.cost_units.specs.Cost.{local_cost, most_rows}
 use Rattle.request_props.specs.Satisfied.{Satisfies}
 use Rattle.request_props.specs.declared.request.Request.{Request}
-use Rattle.request_props.specs.Classes.{class_asked}
+use Rattle.request_props.specs.Dists.{class_asked}
 use Rattle.plan_space.specs.declared.lines.Line.{Line}
 use Rattle.plan_space.specs.declared.nodes.Enforcer.{Enforcer}
 use Rattle.plan_space.specs.Enforcers.{EnforcedBy, enforcers_of, Among}

@@ -3,12 +3,13 @@ use Rattle.std.specs.Prelude.{ℕ, ◌≡◌, ◌≤◌, ◌⊎◌, List, [], �
 use Rattle.query_core.specs.declared.query.Query.{Query}
 use Rattle.query_core.specs.declared.words.KeyParts.{KeyParts}
 use Rattle.request_props.specs.declared.request.Request.{Request}
-use Rattle.request_props.specs.Fitting.{HashFits, OrderFits}
+use Rattle.request_props.specs.Numbered.{lists_of, orders_of}
+use Rattle.request_props.specs.Fitting.{HashFits, OrderFits, Fits}
 use Rattle.plan_space.specs.declared.nodes.Enforcer.{Enforcer}
 use Rattle.plan_space.specs.declared.nodes.Enforcer.TheVariants.{Gather, Broadcast, Sort, GatherMerge, Redistribute}
 use Rattle.plan_space.specs.declared.nodes.NodeKind.TheVariants as nodes
-use Rattle.plan_space.specs.Enforcers.{EnforcedBy, enforcers_of}
-use Rattle.plan_tree.specs.Nodes.{IsNode}
+use Rattle.plan_space.specs.Enforcers.{EnforcedBy, enforcers_of, Among}
+use Rattle.plan_tree.specs.Nodes.{EnforcerInRange, IsNode}
 use Rattle.plan_tree.specs.declared.enforcers.Enforced.{Enforced}
 
 -- what the enforcer sorts or moves by lies in the group
@@ -18,6 +19,17 @@ LiesIn q group Broadcast = ⊤
 LiesIn q group (Sort order) = OrderFits q group order
 LiesIn q group (GatherMerge order) = OrderFits q group order
 LiesIn q group (Redistribute list) = HashFits q group list
+
+-- what an enforcer for a request sorts or moves by lies in each group that the request fits
+abbrev pub EnforcersLie : Query → Type 0
+EnforcersLie q = (group : KeyParts) (wanted : Request) (e : EnforcedBy) → Fits q group wanted
+    → Among e (enforcers_of wanted) → LiesIn q group e.node
+
+-- where the query has at most 60 hashed lists and orders, a number names it
+abbrev pub EnforcersAreInRange : Query → Type 0
+EnforcersAreInRange q =
+    length (lists_of q) ≤ 60 → length (orders_of q) ≤ 60 → (group : KeyParts) (wanted : Request) (e : EnforcedBy)
+    → Fits q group wanted → Among e (enforcers_of wanted) → EnforcerInRange e.node
 
 -- those of the enforcers that fit the group, in the same order
 abbrev pub AreKept : Query → KeyParts → List EnforcedBy → List EnforcedBy → Type 0

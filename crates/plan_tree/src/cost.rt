@@ -16,7 +16,7 @@ ghost use Rattle.plan_space.specs.declared.nodes.Enforcer.{Enforcer as AnyEnforc
 ghost use Rattle.plan_space.specs.declared.nodes.NodeKind.TheVariants.{Enforcer as enforcing};
 ghost use Rattle.plan_tree.specs.Nodes.{IsNode};
 ghost use Rattle.plan_tree.specs.Costs.{IsNativeCost, IsEnforcerCost, IsCostAmong};
-ghost use Rattle.request_props.specs.Classes.{class_asked as class_by_dist};
+ghost use Rattle.request_props.specs.Dists.{class_asked as class_by_dist};
 ghost use Rattle.plan_tree.specs.Costs.{first_asked, second_asked, share_asked as share_by_request};
 ghost use Rattle.plan_tree.specs.Costs.{AreRowsOf, rows_if};
 

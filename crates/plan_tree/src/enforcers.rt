@@ -1,19 +1,22 @@
 //! The enforcers that may meet a request. No call here takes memory.
 #![tactic(auto)]
 
-ghost use Rattle.std.specs.Prelude.{◌≡◌, None, IfSome, slice_get};
+ghost use Rattle.std.specs.Prelude.{◌≡◌, ◌↔◌, IsTrue, None, IfSome, slice_get};
 ghost use Rattle.query_core.specs.Keys.{IsKey, Names};
+ghost use Rattle.query_core.specs.declared.query.Query.{Query as AnyQuery};
 ghost use Rattle.query_core.specs.declared.words.KeyParts.{KeyParts as Group};
 ghost use Rattle.request_props.specs.Numbered.{IsProps};
 ghost use Rattle.request_props.specs.Fitting.{Fits};
 ghost use Rattle.plan_space.specs.Enforcers.{Among, EnforcedBy, below_of, enforcers_of, motions_of};
+ghost use Rattle.plan_space.specs.Enforcers.{moving as by_motion};
 ghost use Rattle.plan_space.specs.declared.nodes.NodeKind.TheVariants.{Enforcer as enforcing};
 ghost use Rattle.plan_tree.specs.Nodes.{EnforcerInRange, IsNode};
-ghost use Rattle.plan_tree.specs.Enforcers.{AreBoth, IsEnforced, IsEnforcerAt};
+ghost use Rattle.plan_tree.specs.Enforcers.{AreBoth, IsEnforced, IsEnforcerAt, LiesIn};
+ghost use Rattle.plan_tree.specs.Enforcers.{EnforcersLie, EnforcersAreInRange};
 ghost use Rattle.plan_tree.specs.NodeCosts.{IsThere};
 
 use crate::node::Node;
-use plan_space::{Enforcer, NodeKind};
+use plan_space::{Enforcer, Motion, NodeKind, merges_to, motion_to, moving};
 use query_core::{Key, KeyParts, Query};
 use request_props::{Dist, Props, Request};
 
@@ -95,6 +98,13 @@ pub fn asked_by(enforcer: Enforcer, request: Request) -> Request
     }
 }
 
+/// Where a request fits a group, what an enforcer for it sorts or moves by lies in the group. Its
+/// number names it, where the query has at most 60 hashed lists and 60 orders.
+pub fn enforcers_are_known()
+    ensures lie { (q : AnyQuery) → EnforcersLie q }
+    ensures in_range { (q : AnyQuery) → EnforcersAreInRange q }
+{}
+
 fn ask(dist: Dist, order: u32) -> Request
     ensures { result ≡ record { dist = dist; order = order } }
 {
@@ -118,15 +128,11 @@ fn both(
         return (None, None);
     }
     let sorted = over(Enforcer::Sort(request.order), request);
-    match request.dist {
-        Dist::One => {
-            let merge = Enforcer::GatherMerge(request.order);
-            (Some(sorted), Some(over(merge, request)))
-        }
-        Dist::Spread => (Some(sorted), None),
-        Dist::Copies => (Some(sorted), None),
-        Dist::Hashed(_) => (Some(sorted), None),
+    if !merges_to(request.dist) {
+        return (Some(sorted), None);
     }
+    let merge = Enforcer::GatherMerge(request.order);
+    (Some(sorted), Some(over(merge, request)))
 }
 
 // The enforcer that brings rows to the distribution, where no order is asked for.
@@ -134,16 +140,26 @@ fn motion(query: &Query, props: &Props, group: KeyParts, request: Request) -> Op
     requires { IsProps query.now props.now }
     ensures { AreBoth query.now group (motions_of request.dist) result None }
 {
-    match request.dist {
-        Dist::One => Some(over(Enforcer::Gather, request)),
-        Dist::Spread => None,
-        Dist::Copies => Some(over(Enforcer::Broadcast, request)),
-        Dist::Hashed(list) => {
-            if !props.hash_fits(query, group, list) {
+    match motion_to(request.dist) {
+        None => None,
+        Some(motion) => {
+            if !lies_in(query, props, group, motion) {
                 return None;
             }
-            Some(over(Enforcer::Redistribute(list), request))
+            Some(over(moving(motion), request))
         }
+    }
+}
+
+// Whether what the motion moves by lies in the group.
+fn lies_in(query: &Query, props: &Props, group: KeyParts, motion: Motion) -> bool
+    requires { IsProps query.now props.now }
+    ensures { IsTrue result ↔ LiesIn query.now group (by_motion motion) }
+{
+    match motion {
+        Motion::Gather => true,
+        Motion::Broadcast => true,
+        Motion::Redistribute(list) => props.hash_fits(query, group, list),
     }
 }
 

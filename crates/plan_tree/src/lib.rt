@@ -21,7 +21,7 @@ pub use alternatives::{
 };
 pub use answers::{Answered, Answers};
 pub use cost::{ExprRows, enforcer_cost, enforcer_cost_by, expr_rows, native_cost, native_cost_by};
-pub use enforcers::{Enforced, asked_by, enforcer, enforcer_for};
+pub use enforcers::{Enforced, asked_by, enforcer, enforcer_for, enforcers_are_known};
 pub use lines::{is_replicated, line_of};
 pub use node::{Node, nodes_are_one};
 pub use node_costs::node_cost;

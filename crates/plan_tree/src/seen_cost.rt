@@ -7,7 +7,7 @@ ghost use Rattle.cardinality.specs.Rows.{rows_of};
 ghost use Rattle.cost_units.specs.Cost.{IsBounded, local_cost, most_cost, most_rows};
 ghost use Rattle.request_props.specs.Numbered.{IsProps};
 ghost use Rattle.plan_space.specs.Gives.{first_group as group_of_first, node_group as group_of_node};
-ghost use Rattle.request_props.specs.Classes.{class_of as class_by_given};
+ghost use Rattle.request_props.specs.Dists.{class_of as class_by_given};
 ghost use Rattle.plan_space.specs.Cost.{native_shape as shape_of_native, enforcer_shape as shape_of_enforcer, shape_of};
 ghost use Rattle.plan_space.specs.Cost.{share_of, first_share as share_of_first, second_share as share_of_second};
 ghost use Rattle.plan_tree.specs.Seen.{kids_seen, HasGroup, HaveGroups};

@@ -1,5 +1,6 @@
 pub mod Agreeing
 pub mod Covering
+pub mod DistCodes
 pub mod Inserted
 pub mod Keys
 pub mod Known

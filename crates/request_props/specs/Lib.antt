@@ -1,4 +1,5 @@
 pub mod Listing
+pub mod Dists
 pub mod Requests
 pub mod Found
 pub mod Groups
@@ -12,5 +13,4 @@ pub mod Numbered
 pub mod Counted
 pub mod Fitting
 pub mod Satisfied
-pub mod Classes
 pub mod Outer

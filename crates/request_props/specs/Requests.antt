@@ -1,15 +1,18 @@
 -- Requests, and their numbers.
-use Rattle.std.specs.Prelude.{ℕ, ◌≡◌, ◌+◌, ◌*◌, ◌/◌, ◌%◌, ◌<◌, ◌≤◌, ⊤}
+use Rattle.std.specs.Prelude.{ℕ, ◌≡◌, ◌+◌, ◌*◌, ◌/◌, ◌%◌, ◌<◌, ◌≤◌, Option, None, Some, ⊤}
+use Rattle.request_props.specs.Dists.{list_asked}
 use Rattle.request_props.specs.declared.request.Dist.{Dist}
 use Rattle.request_props.specs.declared.request.Dist.TheVariants.{One, Spread, Copies, Hashed}
 use Rattle.request_props.specs.declared.request.Request.{Request}
 
 -- a list has a number below 60
+abbrev pub IsListInRange : Option ℕ → Type 0
+IsListInRange None = ⊤
+IsListInRange (Some list) = list < 60
+
+-- so has that of a distribution, if there is one
 abbrev pub IsDistInRange : Dist → Type 0
-IsDistInRange One = ⊤
-IsDistInRange Spread = ⊤
-IsDistInRange Copies = ⊤
-IsDistInRange (Hashed list) = list < 60
+IsDistInRange dist = IsListInRange (list_asked dist)
 
 -- the list and the order are among the 60 that a query can have; the empty order has 0
 pub record IsInRange (request : Request) : Type 0 where

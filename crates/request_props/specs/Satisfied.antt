@@ -1,37 +1,41 @@
 -- When what a plan gives is what is asked for.
-use Rattle.std.specs.Prelude.{ℕ, ◌≡◌, List, [], ◌∷◌, slice_get, slice_index_or, ⊤}
+use Rattle.std.specs.Prelude.{ℕ, ◌≡◌, List, [], ◌∷◌, Option, None, Some, slice_get, slice_index_or, ⊤}
 use Rattle.std.specs.Option.{option_map_or}
 use Rattle.query_core.specs.Expressions.{HasIndex}
 use Rattle.query_core.specs.declared.query.Query.{Query}
+use Rattle.cost_units.specs.declared.shape.Class.{Class}
+use Rattle.cost_units.specs.declared.shape.Class.TheVariants as classes
+use Rattle.request_props.specs.Dists.{class_of, class_asked, list_given, list_asked}
 use Rattle.request_props.specs.Found.{ascending}
 use Rattle.request_props.specs.Numbered.{IsNumbered, order_of}
-use Rattle.request_props.specs.declared.request.Dist as dists
 use Rattle.request_props.specs.declared.request.Dist.{Dist}
 use Rattle.request_props.specs.declared.request.Request.{Request}
 use Rattle.request_props.specs.declared.given.GivenDist.{GivenDist}
-use Rattle.request_props.specs.declared.given.GivenDist.TheVariants.{One, Hashed, Random, Copies}
 use Rattle.request_props.specs.declared.given.GivenOrder.{GivenOrder}
 use Rattle.request_props.specs.declared.given.GivenOrder.TheVariants.{Listed, Index}
 use Rattle.request_props.specs.declared.given.Given.{Given}
 
--- rows that lie so are distributed as asked
+-- the fact, of rows of one class where those of another are asked for
+abbrev pub InOneClass : Class → Class → Type 0 → Type 0
+InOneClass classes.Spread classes.Spread Fact = Fact
+InOneClass classes.Spread classes.One Fact = ⊥
+InOneClass classes.Spread classes.Copies Fact = ⊥
+InOneClass classes.One classes.Spread Fact = ⊥
+InOneClass classes.One classes.One Fact = Fact
+InOneClass classes.One classes.Copies Fact = ⊥
+InOneClass classes.Copies classes.Spread Fact = ⊥
+InOneClass classes.Copies classes.One Fact = ⊥
+InOneClass classes.Copies classes.Copies Fact = Fact
+
+-- the list is the one that is asked for, if one is
+abbrev pub ListMeets : Option ℕ → Option ℕ → Type 0
+ListMeets given None = ⊤
+ListMeets None (Some asked) = ⊥
+ListMeets (Some list) (Some asked) = list ≡ asked
+
+-- rows that lie so are distributed as asked: they are of the class, and lie by the list
 abbrev pub Meets : GivenDist → Dist → Type 0
-Meets One dists.TheVariants.One = ⊤
-Meets One dists.TheVariants.Spread = ⊥
-Meets One dists.TheVariants.Copies = ⊥
-Meets One (dists.TheVariants.Hashed list) = ⊥
-Meets (Hashed list) dists.TheVariants.One = ⊥
-Meets (Hashed list) dists.TheVariants.Spread = ⊤
-Meets (Hashed list) dists.TheVariants.Copies = ⊥
-Meets (Hashed list) (dists.TheVariants.Hashed other) = list ≡ other
-Meets Random dists.TheVariants.One = ⊥
-Meets Random dists.TheVariants.Spread = ⊤
-Meets Random dists.TheVariants.Copies = ⊥
-Meets Random (dists.TheVariants.Hashed list) = ⊥
-Meets Copies dists.TheVariants.One = ⊥
-Meets Copies dists.TheVariants.Spread = ⊥
-Meets Copies dists.TheVariants.Copies = ⊤
-Meets Copies (dists.TheVariants.Hashed list) = ⊥
+Meets given asked = InOneClass (class_of given) (class_asked asked) (ListMeets (list_given given) (list_asked asked))
 
 -- the first order begins with the second
 abbrev pub BeginsWith : List ℕ → List ℕ → Type 0

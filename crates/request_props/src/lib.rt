@@ -3,7 +3,7 @@
 #![tactic(auto)]
 
 mod candidates;
-mod classes;
+mod dists;
 mod ends;
 mod fault;
 mod found;
@@ -20,13 +20,15 @@ mod satisfaction;
 mod sides;
 mod tables;
 
-pub use classes::{class_asked, class_of, classes_agree};
+pub use dists::{class_asked, class_of, classes_agree, list_asked, list_given};
 pub use fault::PropsFault;
 pub use given::{Given, GivenDist, GivenOrder};
 pub use number_set::NumberSet;
 pub use numbering::listing_is_one;
 pub use physical::PhysicalCandidate;
 pub use props::Props;
-pub use request::{Dist, Request, code, dist_code, dist_field, order_field, request_of};
+pub use request::{
+    Dist, Request, code, codes_are_one, dist_code, dist_field, order_field, request_of,
+};
 pub use satisfaction::{meets, satisfies};
 pub use sides::Side;

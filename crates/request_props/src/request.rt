@@ -1,6 +1,6 @@
 ghost use Rattle.std.specs.Prelude.{◌≡◌, ◌↔◌, ◌<◌, Some};
 ghost use Rattle.request_props.specs.declared.request.Request.{Request};
-ghost use Rattle.request_props.specs.declared.request.Dist.{Dist};
+ghost use Rattle.request_props.specs.declared.request.Dist.{Dist as AnyDist};
 ghost use Rattle.request_props.specs.Requests.{IsInRange, IsDistInRange, dist_code as dist_number};
 ghost use Rattle.request_props.specs.Requests.{code_of, HasCode};
 ghost use Rattle.request_props.specs.Requests.{dist_field as dist_in, order_field as order_in};
@@ -75,8 +75,14 @@ pub fn dist_code(dist: Dist) -> u32
     }
 }
 
+/// A distribution's number is one of 63, and no other distribution has it.
+pub fn codes_are_one()
+    ensures few { (dist : AnyDist) → IsDistInRange dist → dist_number dist < 63 }
+    ensures one { (dist other : AnyDist) → dist_number dist ≡ dist_number other → dist ≡ other }
+{}
+
 fn dist_of(code: u32) -> Option<Dist>
-    ensures exact { (d : Dist) → (IsDistInRange d × (dist_number d ≡ code)) ↔ (result ≡ Some d) }
+    ensures exact { (d : AnyDist) → (IsDistInRange d × (dist_number d ≡ code)) ↔ (result ≡ Some d) }
 {
     match code {
         0 => Some(Dist::One),

@@ -4,9 +4,10 @@
 ghost use Rattle.std.specs.Prelude.{◌≡◌, ◌↔◌, IsTrue};
 ghost use Rattle.request_props.specs.Found.{ascending, elements_of};
 ghost use Rattle.request_props.specs.Numbered.{IsProps, IsNumbered, order_of};
-ghost use Rattle.request_props.specs.Satisfied.{Meets, BeginsWith, Satisfies, IsOrderKnown};
+ghost use Rattle.request_props.specs.Satisfied.{ListMeets, Meets, BeginsWith, Satisfies, IsOrderKnown};
 ghost use Rattle.request_props.specs.Satisfied.{given_order, index_columns as columns_of_index};
 
+use crate::dists::{class_asked, class_of, list_asked, list_given};
 use crate::given::{Given, GivenDist, GivenOrder};
 use crate::props::Props;
 use crate::request::{Dist, Request};
@@ -26,13 +27,17 @@ pub fn satisfies(query: &Query, props: &Props, given: Given, request: Request) -
 pub fn meets(given: GivenDist, wanted: Dist) -> bool
     ensures { IsTrue result ↔ Meets given wanted }
 {
-    match (given, wanted) {
-        (GivenDist::One, Dist::One) => true,
-        (GivenDist::Hashed(_), Dist::Spread) => true,
-        (GivenDist::Hashed(list), Dist::Hashed(other)) => list == other,
-        (GivenDist::Random, Dist::Spread) => true,
-        (GivenDist::Copies, Dist::Copies) => true,
-        _ => false,
+    class_of(given) == class_asked(wanted) && list_meets(list_given(given), list_asked(wanted))
+}
+
+// Whether the list is the one that is asked for, if one is.
+fn list_meets(given: Option<u32>, asked: Option<u32>) -> bool
+    ensures { IsTrue result ↔ ListMeets given asked }
+{
+    match (given, asked) {
+        (_, None) => true,
+        (None, Some(_)) => false,
+        (Some(list), Some(asked)) => list == asked,
     }
 }
 

@@ -6,11 +6,12 @@ ghost use Rattle.query_core.specs.Keys.{has_item};
 ghost use Rattle.query_core.specs.declared.words.KeyParts.TheVariants.{Join};
 ghost use Rattle.request_props.specs.Numbered.{IsProps};
 ghost use Rattle.request_props.specs.Lying.{ListLiesIn};
-ghost use Rattle.request_props.specs.Fitting.{DistFits, Fits, HashFits, OrderFits};
+ghost use Rattle.request_props.specs.Fitting.{ListFits, Fits, HashFits, OrderFits};
 
+use crate::dists::list_asked;
 use crate::lying::covers;
 use crate::props::Props;
-use crate::request::{Dist, Request};
+use crate::request::Request;
 use query_core::{KeyParts, OrderKey, Query};
 
 impl Props {
@@ -19,7 +20,8 @@ impl Props {
         requires { IsProps query.now self.now }
         ensures { IsTrue result ↔ Fits query.now group request }
     {
-        self.dist_fits(query, group, request.dist) && self.order_fits(query, group, request.order)
+        self.list_asked_fits(query, group, list_asked(request.dist))
+            && self.order_fits(query, group, request.order)
     }
 
     /// Whether the order has a number, and lies in the group.
@@ -50,15 +52,14 @@ impl Props {
         }
     }
 
-    fn dist_fits(&self, query: &Query, group: KeyParts, dist: Dist) -> bool
+    // Whether the list fits the group, if there is one.
+    fn list_asked_fits(&self, query: &Query, group: KeyParts, list: Option<u32>) -> bool
         requires { IsProps query.now self.now }
-        ensures { IsTrue result ↔ DistFits query.now group dist }
+        ensures { IsTrue result ↔ ListFits query.now group list }
     {
-        match dist {
-            Dist::One => true,
-            Dist::Spread => true,
-            Dist::Copies => true,
-            Dist::Hashed(list) => self.hash_fits(query, group, list),
+        match list {
+            None => true,
+            Some(list) => self.hash_fits(query, group, list),
         }
     }
 

@@ -1,9 +1,9 @@
-use Rattle.std.proofs.Common.{◌≡◌, sym, subst, ◌∙◌, ap}
+use Rattle.std.proofs.Common.{sym, subst, ◌∙◌, ap}
 use Rattle.query_core.specs.Expressions.{expr_of, physical_children}
 use Rattle.plan_space.specs.Alternatives.{asked_of}
 use Rattle.plan_space.specs.Choices.{groups_of}
 use Rattle.plan_space.specs.declared.nodes.NodeKind.TheVariants.{Native}
-use Rattle.best_answers.specs.Answers.{answers_asked, costs_below, best_over}
+use Rattle.best_answers.specs.Answers.{answers_asked, best_over}
 use Rattle.best_answers.specs.Best.{IsBest}
 use Rattle.best_answers.specs.Nodes.{one_node}
 use Rattle.best_answers.proofs.Single.{room_below}

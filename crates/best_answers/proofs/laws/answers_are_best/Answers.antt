@@ -6,11 +6,9 @@ use Rattle.request_props.specs.Numbered.{IsProps}
 use Rattle.request_props.specs.declared.props.Props.{Props}
 use Rattle.request_props.specs.declared.request.Request.{Request}
 use Rattle.request_props.specs.Fitting.{Fits}
-use Rattle.query_core.specs.declared.expressions.ExprParts.{ExprParts}
-use Rattle.query_core.specs.Expressions.{IsPacked, expr_of}
-use Rattle.xform_rules.specs.Closure.{IsMember}
+use Rattle.query_core.specs.Expressions.{expr_of}
 use Rattle.plan_space.specs.Nodes.{Tree}
-use Rattle.plan_space.specs.Cost.{cost_of, most_of_all}
+use Rattle.plan_space.specs.Cost.{most_of_all}
 use Rattle.plan_space.specs.Laws.{ChoiceCostsFit}
 use Rattle.best_answers.specs.Nodes.{Nodes}
 use Rattle.best_answers.specs.Answers.{answer_of}

@@ -1,23 +1,20 @@
-use Rattle.std.proofs.Common.{rules}
-use Rattle.request_props.specs.declared.request.Dist.TheVariants.{Spread}
-use Rattle.plan_space.specs.declared.nodes.Enforcer.TheVariants.{Gather, Broadcast, Redistribute}
-use Rattle.plan_space.specs.Lines.{request}
-use Rattle.plan_space.specs.Enforcers.{enforced}
-use Rattle.plan_tree.proofs.Kept.{one_fits}
+use Rattle.std.proofs.Common.{◌≡◌, Some, rules, subst, sym, ◌∙◌}
+use Rattle.plan_space.specs.declared.nodes.Enforcer.{Enforcer}
+use Rattle.plan_space.specs.declared.nodes.NodeKind.TheVariants as nodes
+use Rattle.plan_space.specs.Enforcers.{below_of, motion_to, moving}
+use Rattle.plan_space.proofs.MotionLaws.{motion_asks}
+use Rattle.plan_tree.specs.Enforcers.{LiesIn}
+use Rattle.plan_tree.specs.Nodes.{IsNode}
+use Rattle.plan_tree.proofs.Kept.{motion_fits}
 use Rattle.plan_tree.proofs.enforcers.motion.Goals as goal
 
-pub returns-in-One : goal.returns-in-One
-returns-in-One c =
-    rw c.in-One.is (one_fits c.args.query.now c.args.group (enforced Gather (request Spread 0)) c.over.result
-    (search rules) c.over.ensures.node c.over.ensures.below)
-
-pub returns-in-Copies : goal.returns-in-Copies
-returns-in-Copies c =
-    rw c.in-Copies.is (one_fits c.args.query.now c.args.group (enforced Broadcast (request Spread 0))
-    c.over-in-Copies.result (search rules) c.over-in-Copies.ensures.node c.over-in-Copies.ensures.below)
-
-pub returns-else-not-hash_fits : goal.returns-else-not-hash_fits
-returns-else-not-hash_fits c =
-    rw c.in-Hashed.is (one_fits c.args.query.now c.args.group
-    (enforced (Redistribute c.in-Hashed.list) (request Spread 0)) c.over-in-Hashed.result (search rules)
-    c.over-in-Hashed.ensures.node c.over-in-Hashed.ensures.below)
+-- the motion, over rows that are shared out
+pub returns-else-not-lies_in : goal.returns-else-not-lies_in
+returns-else-not-lies_in c =
+    let motion = c.in-Some.motion in
+    let moves : motion_to c.args.request.dist ≡ Some motion = sym c.motion_to.ensures ∙ c.in-Some.is in
+    let lies : LiesIn c.args.query.now c.args.group (moving motion) = search rules in
+    motion_fits c.args.query.now c.args.group c.args.request.dist motion c.over.result moves lies
+    (subst (λ (e : Enforcer). IsNode c.over.result.node (nodes.Enforcer e)) c.moving.ensures c.over.ensures.node)
+    (subst (λ (e : Enforcer). c.over.result.below ≡ below_of e c.args.request) c.moving.ensures c.over.ensures.below
+    ∙ motion_asks motion c.args.request)

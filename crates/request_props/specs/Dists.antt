@@ -1,4 +1,5 @@
--- How many segments have rows that are given, or asked for.
+-- What distributions are known by: how many segments have rows, and by whose hash the rows lie.
+use Rattle.std.specs.Prelude.{ℕ, Option, None, Some}
 use Rattle.cost_units.specs.declared.shape.Class.{Class}
 use Rattle.cost_units.specs.declared.shape.Class.TheVariants as classes
 use Rattle.request_props.specs.declared.given.GivenDist.{GivenDist}
@@ -19,3 +20,17 @@ class_asked dists.One = classes.One
 class_asked dists.Spread = classes.Spread
 class_asked dists.Copies = classes.Copies
 class_asked (dists.Hashed list) = classes.Spread
+
+-- the list by whose hash the rows lie, if there is one
+abbrev pub list_given : GivenDist → Option ℕ
+list_given given.One = None
+list_given (given.Hashed list) = Some list
+list_given given.Random = None
+list_given given.Copies = None
+
+-- the list by whose hash rows are asked for, if there is one
+abbrev pub list_asked : Dist → Option ℕ
+list_asked dists.One = None
+list_asked dists.Spread = None
+list_asked dists.Copies = None
+list_asked (dists.Hashed list) = Some list

@@ -1,10 +1,11 @@
-//! How many segments have rows that are given, or asked for.
+//! What distributions are known by: how many segments have rows, and by whose hash the rows lie.
 #![tactic(auto)]
 
-ghost use Rattle.std.specs.Prelude.{◌≡◌};
+ghost use Rattle.std.specs.Prelude.{◌≡◌, ◌↔◌};
 ghost use Rattle.query_core.specs.declared.query.Query.{Query};
-ghost use Rattle.request_props.specs.Classes.{class_of as class_by_given, class_asked as class_by_asked};
-ghost use Rattle.request_props.specs.Satisfied.{Meets, Satisfies};
+ghost use Rattle.request_props.specs.Dists.{class_of as class_by_given, class_asked as class_by_asked};
+ghost use Rattle.request_props.specs.Dists.{list_given as list_by_given, list_asked as list_by_asked};
+ghost use Rattle.request_props.specs.Satisfied.{ListMeets, Meets, Satisfies};
 ghost use Rattle.request_props.specs.declared.given.Given.{Given as AnyGiven};
 ghost use Rattle.request_props.specs.declared.given.GivenDist.{GivenDist as AnyGivenDist};
 ghost use Rattle.request_props.specs.declared.request.Dist.{Dist as AnyDist};
@@ -38,9 +39,36 @@ pub fn class_asked(dist: Dist) -> Class
     }
 }
 
-/// Rows that are distributed as asked are of the class that is asked for, so what satisfies a
-/// request is.
+/// The list by whose hash the rows lie, if there is one.
+pub fn list_given(dist: GivenDist) -> Option<u32>
+    ensures { result ≡ list_by_given dist }
+{
+    match dist {
+        GivenDist::One => None,
+        GivenDist::Hashed(list) => Some(list),
+        GivenDist::Random => None,
+        GivenDist::Copies => None,
+    }
+}
+
+/// The list by whose hash rows are asked for, if there is one.
+pub fn list_asked(dist: Dist) -> Option<u32>
+    ensures { result ≡ list_by_asked dist }
+{
+    match dist {
+        Dist::One => None,
+        Dist::Spread => None,
+        Dist::Copies => None,
+        Dist::Hashed(list) => Some(list),
+    }
+}
+
+/// Rows are distributed as asked exactly where they are of the class that is asked for and lie by
+/// the list, if one is asked for. So what satisfies a request is of its class.
 pub fn classes_agree()
+    ensures exact { (dist : AnyGivenDist) (asked : AnyDist) →
+        Meets dist asked ↔ ((class_by_given dist ≡ class_by_asked asked)
+        × ListMeets (list_by_given dist) (list_by_asked asked)) }
     ensures met { (dist : AnyGivenDist) (asked : AnyDist) → Meets dist asked →
         class_by_given dist ≡ class_by_asked asked }
     ensures satisfied { (q : Query) (given : AnyGiven) (wanted : AnyRequest) →
