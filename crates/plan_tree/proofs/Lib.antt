@@ -12,6 +12,6 @@ pub mod JoinSuits
 pub mod ReadModes
 pub mod ChildModes
 pub mod ModesTried
-pub mod TriedOfWays
+pub mod WayModes
 pub mod FoundEnforcers
 pub mod There

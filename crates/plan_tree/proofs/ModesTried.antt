@@ -1,5 +1,5 @@
 -- The modes of an expression that are there for a request, by its way of working.
-use Rattle.std.proofs.Common.{◌≡◌, ◌∙◌, ◌↔◌, ℕ, ◌<◌, ◌≤◌, Some, ap, sym, subst, inl, inr}
+use Rattle.std.proofs.Common.{◌≡◌, ◌∙◌, ◌↔◌, ℕ, ◌<◌, ◌≤◌, Option, None, Some, ap, sym, subst, inl, inr}
 use Rattle.std.proofs.lemmas.Bool.{cases_lt}
 use Rattle.query_core.specs.Expressions.{IsCandidate, expr_of, physical_children}
 use Rattle.query_core.specs.declared.expressions.Children.{Children}
@@ -7,11 +7,12 @@ use Rattle.query_core.specs.declared.expressions.PhysicalExpr.{PhysicalExpr}
 use Rattle.query_core.specs.declared.query.Query.{Query}
 use Rattle.query_core.specs.declared.words.KeyParts.{KeyParts}
 use Rattle.request_props.specs.declared.request.Request.{Request}
-use Rattle.plan_space.specs.Alternatives.{LineServes}
+use Rattle.plan_space.specs.Alternatives.{IsAlternative, LineServes}
 use Rattle.plan_space.specs.Laws.{CrossingsFit}
-use Rattle.plan_space.specs.Lines.{way_line}
+use Rattle.plan_space.specs.Lines.{line_of, way_line}
 use Rattle.plan_space.specs.Modes.{HasModeIn, mode_at}
 use Rattle.plan_space.specs.Ways.{way_of}
+use Rattle.plan_space.specs.declared.lines.Line.{Line}
 use Rattle.plan_space.specs.declared.modes.Mode.{Mode}
 use Rattle.plan_space.specs.declared.modes.ModeSets.{ModeSets}
 use Rattle.plan_space.specs.declared.ways.JoinBy.{JoinBy}
@@ -19,11 +20,32 @@ use Rattle.plan_space.specs.declared.ways.Way.{Way}
 use Rattle.plan_space.specs.declared.ways.Way.TheVariants.{Joins}
 use Rattle.plan_space.proofs.WayShapes.{children_same, way_children}
 use Rattle.plan_tree.specs.Alternatives.{HasAlternative}
-use Rattle.plan_tree.specs.ServingModes.{AreFittingLeft, AreJoinModes, AreToTry, DistSuits, MayServe, OrderSuits, ServesBy}
+use Rattle.plan_tree.specs.ServingModes.{AreFittingLeft, AreJoinModes, AreToTry, DistSuits, IsNextServing, MayServe, OrderSuits}
+use Rattle.plan_tree.specs.ServingModes.{ServesBy}
+use Rattle.plan_tree.specs.Walks.{IsNextOf}
 use Rattle.plan_tree.proofs.JoinNeeds.{join_needs}
 use Rattle.plan_tree.proofs.JoinSuits.{needs_suit, suit_needs}
 
 module _ (q : Query) (e : PhysicalExpr) (wanted : Request) where
+  -- what serves in a mode serves with the line of that
+  own_line : (mode : ℕ) (line : Line) → line_of q e mode ≡ Some line → HasAlternative q e wanted mode
+      → IsAlternative q e wanted mode line
+  own_line mode line is has =
+      let both : Some has.0 ≡ Some line = sym has.1.is_line ∙ is in
+      let same : has.0 ≡ line = cc in
+      subst (IsAlternative q e wanted mode) same has.1
+
+  -- the first of the modes to try is the first that serves
+  pub next_serving : (modes : ModeSets) → AreToTry q e wanted modes → IsCandidate q (expr_of e) → (from : ℕ)
+      → (found : Option (ℕ × Line)) → IsNextOf q e modes from found → IsNextServing q e wanted from found
+  next_serving modes are candidate from None none = λ mode above has. none mode above (are.all mode has)
+  next_serving modes are candidate from (Some (mode, line)) next = (
+    next.0,
+    next.1,
+    λ m above below has. next.2 m above below (are.all m has),
+    own_line mode line next.3 (are.only candidate mode next.4),
+  )
+
   -- where none is left from the number on, all are below it
   pub all_below : (from : ℕ) → ((mode : ℕ) → from ≤ mode → HasAlternative q e wanted mode → ⊥) → (mode : ℕ)
       → HasAlternative q e wanted mode → mode < from

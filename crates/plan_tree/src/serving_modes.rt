@@ -9,8 +9,9 @@ ghost use Rattle.plan_tree.specs.ServingModes.{AreToTry, IsNextServing, MayServe
 
 use crate::child_modes::{group_modes, kept_modes};
 use crate::join_modes::{join_may_serve, join_modes};
-use crate::lines::{grouped_order, line_of, order_read};
+use crate::lines::{grouped_order, order_read};
 use crate::read_modes::read_modes;
+use crate::walks::next_of;
 use crate::ways::way_of;
 use plan_space::{Line, MODES_END, ModeSets, Way, modes_are_few, what_is_asked_fits};
 use query_core::{PhysicalExpr, Query};
@@ -82,13 +83,5 @@ pub fn next_alternative(
     requires modes { AreToTry query.now expr wanted modes }
     ensures { IsNextServing query.now expr wanted from result }
 {
-    // For the proof: an expression has few modes.
-    modes_are_few();
-    let mode = modes.next(from);
-    if mode < MODES_END {
-        let line = line_of(query, props, expr, mode)?;
-        Some((mode, line))
-    } else {
-        None
-    }
+    next_of(query, props, expr, modes, from)
 }

@@ -1,13 +1,11 @@
--- No mode from the last on has a line, and those before it that are passed don't serve.
-use Rattle.std.proofs.Common.{inl, inr, arith}
-use Rattle.std.proofs.lemmas.Bool.{cases_lt}
+-- Each of the modes to try has a line, and the first of them is the first that serves.
+use Rattle.plan_tree.proofs.ModesTried.{next_serving}
 use Rattle.plan_tree.proofs.serving_modes.next_alternative.Goals as goal
 
-pub returns-else-mode-lt-END : goal.returns-else-mode-lt-END
-returns-else-mode-lt-END c = λ mode above has. elim (cases_lt mode c.next-mode.result) [
-  | inl less ↦ c.next-mode.ensures.none mode above less (c.requires.modes.all mode has)
-  | inr most ↦
-      let few = c.modes_are_few.ensures.few c.args.query.now c.requires.props.few_lists c.args.expr mode has.0
-      has.1.is_line in
-      absurd (omega (arith, few, most))
-]
+pub next_of-requires-clause-lined : goal.next_of-requires-clause-lined
+next_of-requires-clause-lined c = λ mode has. let (line, is) = c.requires.modes.only c.requires.candidate mode has in
+    (line, is.is_line)
+
+pub returns : goal.returns
+returns c = next_serving c.args.query.now c.args.expr c.args.wanted c.args.modes c.requires.modes c.requires.candidate
+    c.args.from c.next_of.result c.next_of.ensures
