@@ -3,12 +3,15 @@
 
 mod alternatives;
 mod answers;
+mod child_modes;
 mod cost;
 mod enforcers;
+mod join_modes;
 mod lines;
 mod node;
 mod node_costs;
 mod plan;
+mod read_modes;
 mod seen;
 mod seen_cost;
 mod serving;

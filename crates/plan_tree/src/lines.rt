@@ -47,8 +47,8 @@ fn line_by(query: &Query, props: &Props, group: KeyParts, way: Way, mode: Mode) 
     }
 }
 
-// In no order, or in that of the index of this number of the group's table.
-fn order_read(group: KeyParts, access: Access) -> GivenOrder
+/// In no order, or in that of the index of this number of the group's table.
+pub fn order_read(group: KeyParts, access: Access) -> GivenOrder
     ensures { result ≡ order_by_access group access }
 {
     match access {
@@ -86,8 +86,8 @@ fn join_line(
     }
 }
 
-// The order in which rows are grouped.
-fn grouped_order(query: &Query, props: &Props, by: GroupBy) -> u32
+/// The order in which rows are grouped.
+pub fn grouped_order(query: &Query, props: &Props, by: GroupBy) -> u32
     requires { IsProps query.now props.now }
     ensures { result ≡ order_grouped query.now by }
 {

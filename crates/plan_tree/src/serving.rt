@@ -3,8 +3,8 @@
 #![tactic(auto)]
 
 ghost use Rattle.std.specs.Prelude.{◌≡◌, ◌↔◌, IsTrue, slice_get};
-ghost use Rattle.request_props.specs.Numbered.{IsProps, IsNumbered};
-ghost use Rattle.request_props.specs.Satisfied.{Satisfies, IsOrderKnown, given_order};
+ghost use Rattle.request_props.specs.Numbered.{IsProps, IsNumbered, order_of};
+ghost use Rattle.request_props.specs.Satisfied.{BeginsWith, Satisfies, IsOrderKnown, given_order};
 ghost use Rattle.plan_space.specs.Gives.{gives_so};
 ghost use Rattle.plan_space.specs.Choices.{groups_of};
 ghost use Rattle.plan_space.specs.Alternatives.{DistServes, OrderServes, LeftServes, JoinServes, LineServes};
@@ -161,7 +161,7 @@ fn dist_serves(query: &Query, props: &Props, dist: LeftDist, wanted: Dist) -> bo
     }
 }
 
-fn wants_spread(dist: Dist) -> bool
+pub fn wants_spread(dist: Dist) -> bool
     ensures { IsTrue result ↔ WantsSpread dist }
 {
     match dist {
@@ -179,15 +179,22 @@ fn order_serves(query: &Query, props: &Props, order: LeftOrder, wanted: u32) -> 
 {
     match order {
         _ if wanted == 0 => true,
-        LeftOrder::Fixed(given, _) => {
-            let anywhere = Request {
-                dist: Dist::One,
-                order: wanted,
-            };
-            gives(query, props, GivenDist::One, given, anywhere)
-        }
+        LeftOrder::Fixed(given, _) => order_begins(query, props, given, wanted),
         LeftOrder::Same => true,
     }
+}
+
+/// Whether rows in the one order are in the other.
+pub fn order_begins(query: &Query, props: &Props, given: GivenOrder, wanted: u32) -> bool
+    requires props { IsProps query.now props.now }
+    requires wanted { IsNumbered query.now wanted }
+    ensures { IsTrue result ↔ BeginsWith (given_order query.now given) (order_of query.now wanted) }
+{
+    let anywhere = Request {
+        dist: Dist::One,
+        order: wanted,
+    };
+    gives(query, props, GivenDist::One, given, anywhere)
 }
 
 /// Whether the distribution and the order are what is asked for.

@@ -1,11 +1,15 @@
 //! The modes of an expression, one after the other. No call here takes memory.
 #![tactic(auto)]
 
-ghost use Rattle.std.specs.Prelude.{◌≡◌, length};
-ghost use Rattle.request_props.specs.NumberSets.{HasBelow};
+ghost use Rattle.std.specs.Prelude.{ℕ, ◌≡◌, ◌<◌, ◌↔◌, length};
+ghost use Rattle.query_core.specs.Expressions.{table_in as table_by_group};
+ghost use Rattle.query_core.specs.declared.words.KeyParts.{KeyParts as Group};
+ghost use Rattle.request_props.specs.NumberSets.{IsInSet};
 ghost use Rattle.request_props.specs.Numbered.{IsProps, lists_of};
+ghost use Rattle.plan_space.specs.Lines.{dists_of_table};
 ghost use Rattle.plan_space.specs.Ways.{way_of as way_by_table};
-ghost use Rattle.plan_tree.specs.Walks.{AreJoinsTried, AreReadsOf, AreTriedOf, IsNextLine, IsNextTried};
+ghost use Rattle.plan_space.specs.declared.ways.Way.TheVariants.{Joins};
+ghost use Rattle.plan_tree.specs.Walks.{AreLined, AreModesOf, IsNextLine, IsNextOf};
 
 use crate::lines::{line_of, read_count};
 use crate::ways::way_of;
@@ -18,57 +22,57 @@ pub fn next_line(query: &Query, props: &Props, expr: PhysicalExpr, from: u32) ->
     requires { IsProps query.now props.now }
     ensures { IsNextLine query.now expr from result }
 {
-    next_tried(query, props, expr, tried_modes(query, props, expr), from)
+    next_of(query, props, expr, modes_of(query, props, expr), from)
 }
 
-/// The first of these modes from this number on in which the expression works, with its line.
-pub fn next_tried(
+/// The first of these modes from this number on, with its line.
+pub fn next_of(
     query: &Query,
     props: &Props,
     expr: PhysicalExpr,
     modes: ModeSets,
     from: u32,
 ) -> Option<(u32, Line)>
-    requires { IsProps query.now props.now }
-    ensures { IsNextTried query.now expr modes from result }
+    requires props { IsProps query.now props.now }
+    requires lined { AreLined query.now expr modes }
+    ensures { IsNextOf query.now expr modes from result }
 {
     // For the proof: an expression has few modes.
     modes_are_few();
-    let mut mode = modes.next(from);
-    while mode < MODES_END {
-        match line_of(query, props, expr, mode) {
-            Some(line) => return Some((mode, line)),
-            None => {}
-        }
-        mode = modes.next(mode + 1);
+    let mode = modes.next(from);
+    if mode < MODES_END {
+        let line = line_of(query, props, expr, mode)?;
+        Some((mode, line))
+    } else {
+        None
     }
-    None
 }
 
-/// The modes that are tried of an expression: all are among them in which it works.
-pub fn tried_modes(query: &Query, props: &Props, expr: PhysicalExpr) -> ModeSets
+// The modes in which the expression works.
+fn modes_of(query: &Query, props: &Props, expr: PhysicalExpr) -> ModeSets
     requires { IsProps query.now props.now }
-    ensures { AreTriedOf query.now expr.group (way_by_table expr.operator) result }
+    ensures { AreModesOf query.now expr.group (way_by_table expr.operator) result }
 {
-    tried_by(query, props, expr.group, way_of(expr.operator))
+    modes_by(query, props, expr.group, way_of(expr.operator))
 }
 
 // The same of a group's way of working.
-fn tried_by(query: &Query, props: &Props, group: KeyParts, way: Way) -> ModeSets
+fn modes_by(query: &Query, props: &Props, group: KeyParts, way: Way) -> ModeSets
     requires { IsProps query.now props.now }
-    ensures { AreTriedOf query.now group way result }
+    ensures { AreModesOf query.now group way result }
 {
     let first = NumberSet::below(1);
+    let nothing = NumberSet::none();
     match way {
-        Way::Reads(_) => by_reads(query, group),
-        Way::Passes(_, _) => tried(first, NumberSet::none(), NumberSet::none()),
-        Way::Joins(by, left, right) => by_equalities(query, props, by, left, right),
-        Way::Groups(_, _) => tried(first, NumberSet::none(), by_lists(query, props)),
+        Way::Reads(_) => tried(reads_of(query, group), nothing, nothing),
+        Way::Passes(_, _) => tried(first, nothing, nothing),
+        Way::Joins(by, left, right) => modes_joining(query, props, by, left, right),
+        Way::Groups(_, _) => tried(first, nothing, all_lists(query, props)),
     }
 }
 
-// The modes of a join: the first of a kind, or those by the equalities across its groups.
-fn by_equalities(
+// Those of a join: the first of a kind, or those by the equalities across its groups.
+fn modes_joining(
     query: &Query,
     props: &Props,
     by: JoinBy,
@@ -76,31 +80,29 @@ fn by_equalities(
     right: KeyParts,
 ) -> ModeSets
     requires { IsProps query.now props.now }
-    ensures { AreJoinsTried query.now by left right result }
+    ensures { (group : Group) → AreModesOf query.now group (Joins by left right) result }
 {
     let first = NumberSet::below(1);
+    let crossings = props.crossings(query, left, right);
     match by {
-        JoinBy::Hashing => tried(first, first, props.crossings(query, left, right)),
-        JoinBy::Merging => {
-            let crossings = props.crossings(query, left, right);
-            tried(crossings, crossings, crossings)
-        }
+        JoinBy::Hashing => tried(first, first, crossings),
+        JoinBy::Merging => tried(crossings, crossings, crossings),
         JoinBy::Looping => tried(first, first, NumberSet::none()),
     }
 }
 
-// A mode for each distribution in which the rows of the group's table are read.
-fn by_reads(query: &Query, group: KeyParts) -> ModeSets
-    ensures { AreReadsOf query.now group result }
+// A number for each distribution in which the rows of the group's table are read.
+fn reads_of(query: &Query, group: KeyParts) -> NumberSet
+    ensures { (number : ℕ) → IsInSet result number ↔
+        (number < length (dists_of_table query.now (table_by_group group))) }
 {
-    let reads = NumberSet::below(read_count(query, table_in(group)));
-    tried(reads, NumberSet::none(), NumberSet::none())
+    NumberSet::below(read_count(query, table_in(group)))
 }
 
 // The numbers of all hashed lists.
-fn by_lists(query: &Query, props: &Props) -> NumberSet
+fn all_lists(query: &Query, props: &Props) -> NumberSet
     requires { IsProps query.now props.now }
-    ensures { HasBelow result (length (lists_of query.now)) }
+    ensures { (list : ℕ) → IsInSet result list ↔ (list < length (lists_of query.now)) }
 {
     NumberSet::below(props.hashed.len() as u32)
 }

@@ -1,6 +1,11 @@
-use Rattle.plan_tree.proofs.TriedOfWays.{first_of_all}
+-- The first of all modes is the first one with a line.
+use Rattle.plan_space.specs.Modes.{mode_at}
+use Rattle.plan_tree.proofs.WayModes.{next_lined}
 use Rattle.plan_tree.proofs.walks.next_line.Goals as goal
 
+pub next_of-requires-clause-lined : goal.next_of-requires-clause-lined
+next_of-requires-clause-lined c = λ mode has. (c.modes_of.ensures (mode_at mode)).0 has
+
 pub returns : goal.returns
-returns c = first_of_all c.args.query.now c.args.expr c.tried_modes.result c.tried_modes.ensures c.args.from
-    c.next_tried.result c.next_tried.ensures
+returns c = next_lined c.args.query.now c.args.expr c.modes_of.result c.modes_of.ensures c.args.from c.next_of.result
+    c.next_of.ensures
