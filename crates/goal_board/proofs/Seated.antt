@@ -1,5 +1,5 @@
 -- What a step leaves of a seat: bare and awake, and one of its board.
-use Rattle.std.proofs.Common.{◌≡◌, ◌≢◌, ℕ, ◌<◌, [], ◌∷◌, List, sym, refl, subst, ◌∙◌}
+use Rattle.std.proofs.Common.{◌≡◌, ◌≢◌, ℕ, ◌<◌, [], ◌∷◌, List, None, sym, refl, ap, subst, ◌∙◌}
 use Rattle.board_rule.specs.Meaning.{Meaning}
 use Rattle.board_rule.specs.Words.{cell_word}
 use Rattle.board_rule.specs.Records.{Claimed}
@@ -36,6 +36,18 @@ module _ {R : Type 0} (s : Seat R) where
     bare = slots ∙ s.bare;
     awake = either_way (λ (h : Hands R). 0 < h.parts) hit miss if_won if_lost;
   }
+
+-- a seat in its call is one of the board once it puts no wait in and has walked its list
+pub seat_freed : {R : Type 0} {meaning_of : R → Meaning} {b : Board R} {t : Seat R} → IsInCall meaning_of b t
+    → {left : Hands R} → hands t ≡ left → left.pending ≡ None → left.walk.waiters ≡ [] → IsSeatOf meaning_of b t
+seat_freed call is no_wait no_walk = record {
+  same_table = call.same_table;
+  over = call.over;
+  free = record {
+    no_wait = ap (λ (h : Hands _). h.pending) is ∙ no_wait;
+    no_walk = ap (λ (h : Hands _). h.walk.waiters) is ∙ no_walk;
+  };
+}
 
 -- what holds of the board's rules and cells holds of those by its table's law
 pub lawful : {R : Type 0} (b : Board R) (Fact : R → ℕ → Type 0) → Fact b.setup.rules b.setup.capacity

@@ -1,7 +1,8 @@
--- What a call finds and does, over a board and a seat of it before and after.
+-- What a call asks for, finds and does, over a board and a seat of it before and after.
 use Rattle.std.specs.Prelude.{ℕ, Option, Bool}
 use Rattle.board_rule.specs.Meaning.{Meaning}
 use Rattle.board_rule.specs.Looks.{ShowsEntry, ShowsPromise, ShowsClosed}
+use Rattle.board_rule.specs.May.{MayPut, MayFill, MayClaim, MayClose}
 use Rattle.goal_board.specs.declared.board.Board.{Board}
 use Rattle.goal_board.specs.declared.board.Seat.{Seat}
 use Rattle.goal_board.specs.declared.board.Right.{Right}
@@ -32,6 +33,23 @@ module _ {R : Type 0} (meaning_of : R → Meaning) (b : Board R) (s : Seat R) wh
   -- one of its looks found a child of the goal in the cell
   abbrev pub HasSeenChild : (goal at : ℕ) → Type 0
   HasSeenChild goal at = SeesChild (meaning_of b.setup.rules) (hands s).looks goal at
+
+  -- it may put the word into the cell
+  abbrev pub SeatMayPut : (place word : ℕ) → Type 0
+  SeatMayPut place word = MayPut (meaning_of b.setup.rules) b.setup.capacity (hands s) place word
+
+  -- it may set the full word
+  abbrev pub SeatMayFill : Type 0
+  SeatMayFill = MayFill (meaning_of b.setup.rules) b.setup.capacity (hands s)
+
+  -- it may claim the goal at the place
+  abbrev pub SeatMayClaim : (place : ℕ) → Type 0
+  SeatMayClaim place = MayClaim (meaning_of b.setup.rules) b.setup.capacity (hands s) place
+
+  -- it may close the head of the goal at the place, whose answer it stored
+  abbrev pub SeatMayClose : (place worker cost node : ℕ) → Type 0
+  SeatMayClose place worker cost node =
+      MayClose (meaning_of b.setup.rules) b.setup.capacity (hands s) place worker cost node
 
   -- each of its rights is one still
   abbrev pub SeatKeepsRights : Seat R → Type 0

@@ -36,13 +36,14 @@ impl<R: GoalRules> Board<R> {
     ghost use Rattle.goal_board.specs.Seats.{IsSeatOf, hands};
     ghost use Rattle.board_rule.specs.Seats.{opening_hands};
 
-    /// An empty board of `capacity` cells, and the first seat. It takes the board's memory. Of the other calls only `close`
-    /// takes any, beside the hints that `finish` is lent.
+    /// An empty board of `capacity` cells, and the first seat. It takes the board's memory. Of the other calls only
+    /// `close` takes any, beside the hints that `finish` is lent.
     pub fn start(alloc: Global, rules: R, capacity: u32) -> Result<(Board<R>, Seat<R>), AllocError>
     where
         R: Drop,
         requires { (1 ≤ capacity) × (capacity ≤ 2 ^ 20) }
-        ensures board { IfOk result (λ made. (made.0.setup.rules ≡ rules) × (made.0.setup.capacity ≡ capacity)) }
+        ensures board { IfOk result (λ made.
+            (made.0.setup.rules ≡ rules) × (made.0.setup.capacity ≡ capacity)) }
         ensures seat { IfOk result (λ made.
             IsSeatOf R.meaning made.0 made.1 × (hands made.1 ≡ opening_hands rules capacity)) }
     {

@@ -1,7 +1,8 @@
 ghost use Rattle.std.specs.Prelude.{◌≡◌, ℕ, ◌<◌, IsSome};
 ghost use Rattle.goal_board.specs.Seats.{IsSeatOf, hands};
 ghost use Rattle.goal_board.specs.RightCalls.{SuspendsGoal};
-ghost use Rattle.goal_board.specs.SeatCalls.{HasRightTo, HasSeenPromise, HasSeenClosed, SeatKeepsRights, SeatKeepsOthers, SeatClaims, SeatFinishes, SeatReads};
+ghost use Rattle.goal_board.specs.SeatCalls.{HasRightTo, HasSeenPromise, HasSeenClosed, SeatKeepsRights};
+ghost use Rattle.goal_board.specs.SeatCalls.{SeatKeepsOthers, SeatClaims, SeatFinishes, SeatReads};
 
 use crate::answers::{Answer, Suspended, Woken};
 use crate::board::{Board, Right, Seat};

@@ -1,10 +1,11 @@
 // One private call for each kind of step. All that is above speaks of hands.
 ghost use Rattle.std.specs.Prelude.{◌≡◌, ℕ, ◌+◌, ◌*◌, ◌<◌};
 ghost use Rattle.board_rule.specs.Words.{cell_word, run_word, head_word, cost_word, node_word, who_word};
-ghost use Rattle.board_rule.specs.May.{MayPut, MayFill, MayClaim, HasRight, MaySuspend, MayClose};
+ghost use Rattle.board_rule.specs.May.{HasRight, MaySuspend};
 ghost use Rattle.board_rule.specs.Plays.{LooksAt, PutsIn, ClaimsAt, SuspendsAt, ClosesHead};
 ghost use Rattle.board_rule.specs.Seats.{cost_stored, node_stored, who_stored, filled};
 ghost use Rattle.goal_board.specs.Seats.{IsSeatOf, IsInCall, hands};
+ghost use Rattle.goal_board.specs.SeatCalls.{SeatMayPut, SeatMayFill, SeatMayClaim, SeatMayClose};
 
 use crate::board::{Board, Seat};
 use board_rule::{
@@ -71,7 +72,7 @@ impl<R: GoalRules> Board<R> {
     // Puts an entry into a cell, where it is empty. Gives what it found there.
     pub(crate) fn put(&self, seat: &mut Seat<R>, place: u32, word: u64) -> u64
         requires seat { IsSeatOf R.meaning self.now seat.old }
-        requires may { MayPut (R.meaning self.now.setup.rules) self.now.setup.capacity (hands seat.old) place word }
+        requires may { SeatMayPut R.meaning self.now seat.old place word }
         ensures seat { IsSeatOf R.meaning self.now seat.new }
         ensures told { PutsIn R.meaning (hands seat.old) place word result (hands seat.new) }
     {
@@ -83,7 +84,7 @@ impl<R: GoalRules> Board<R> {
     // Claims a goal, where its run word is 0. Gives what it found there.
     pub(crate) fn hold(&self, seat: &mut Seat<R>, place: u32) -> u64
         requires seat { IsSeatOf R.meaning self.now seat.old }
-        requires may { MayClaim (R.meaning self.now.setup.rules) self.now.setup.capacity (hands seat.old) place }
+        requires may { SeatMayClaim R.meaning self.now seat.old place }
         ensures seat { IsSeatOf R.meaning self.now seat.new }
         ensures told { ClaimsAt R.meaning (hands seat.old) place result (hands seat.new) }
     {
@@ -114,8 +115,7 @@ impl<R: GoalRules> Board<R> {
         _node: u64,
     ) -> u64
         requires seat { IsSeatOf R.meaning self.now seat.old }
-        requires may { MayClose (R.meaning self.now.setup.rules) self.now.setup.capacity (hands seat.old)
-            place _worker _cost _node }
+        requires may { SeatMayClose R.meaning self.now seat.old place _worker _cost _node }
         ensures seat { IsInCall R.meaning self.now seat.new }
         ensures told { ClosesHead R.meaning (hands seat.old) place _worker _cost _node
             result (hands seat.new) }
@@ -162,7 +162,7 @@ impl<R: GoalRules> Board<R> {
     // Sets the full word, where every cell was found taken by another word than this entry.
     pub(crate) fn fill(&self, seat: &mut Seat<R>)
         requires seat { IsSeatOf R.meaning self.now seat.old }
-        requires may { MayFill (R.meaning self.now.setup.rules) self.now.setup.capacity (hands seat.old) }
+        requires may { SeatMayFill R.meaning self.now seat.old }
         ensures seat { IsSeatOf R.meaning self.now seat.new }
         ensures hands { hands seat.new ≡ filled (hands seat.old) }
     {

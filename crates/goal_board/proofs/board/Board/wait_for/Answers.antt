@@ -12,6 +12,7 @@ use Rattle.goal_board.specs.declared.board.Right.{Right}
 use Rattle.goal_board.specs.Seats.{hands, the_wait}
 use Rattle.goal_board.specs.RightCalls.{waiting_right, IsRightOf}
 use Rattle.goal_board.proofs.Finishing.{has_right}
+use Rattle.goal_board.proofs.Seated.{seat_freed}
 use Rattle.goal_board.proofs.OthersKept.{register_keeps, finished_keeps}
 use Rattle.goal_board.proofs.Told.{push_at, dropped_at}
 use Rattle.goal_board.proofs.Putting.{its_waits, linked_child, nearer, right_registered}
@@ -150,14 +151,7 @@ returns-then-found-head-clause-seat g c =
     p.hands_are in
     let is = c.put_wait-found.ensures.told.hit c.if-found-head.true
     ∙ ap (λ (h : Hands _). wait_put h (the_wait h) c.loop-head.head) linked in
-    record {
-      same_table = c.put_wait-found.ensures.seat.same_table;
-      over = c.put_wait-found.ensures.seat.over;
-      free = record {
-        no_wait = ap (λ (h : Hands _). h.pending) is;
-        no_walk = ap (λ (h : Hands _). h.walk.waiters) is ∙ c.requires.seat.free.no_walk;
-      };
-    }
+    seat_freed c.put_wait-found.ensures.seat is refl c.requires.seat.free.no_walk
 
 pub returns-then-found-head-clause-answer : goal.returns-then-found-head-clause-answer
 returns-then-found-head-clause-answer g c =
@@ -195,14 +189,7 @@ returns-clause-seat g c =
     let p = c.loop-head.invariant.putting in
     let is = c.drop_wait.ensures.told.hands_are
     ∙ ap (λ (h : Hands _). wait_dropped h (the_wait h) c.drop_wait.result) p.hands_are in
-    record {
-      same_table = c.drop_wait.ensures.seat.same_table;
-      over = c.drop_wait.ensures.seat.over;
-      free = record {
-        no_wait = ap (λ (h : Hands _). h.pending) is;
-        no_walk = ap (λ (h : Hands _). h.walk.waiters) is ∙ c.requires.seat.free.no_walk;
-      };
-    }
+    seat_freed c.drop_wait.ensures.seat is refl c.requires.seat.free.no_walk
 
 pub returns-clause-answer : goal.returns-clause-answer
 returns-clause-answer g c =
