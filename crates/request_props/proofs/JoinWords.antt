@@ -1,169 +1,129 @@
--- The words of all expressions of a kind in order, those of the joins of a set among them.
-use Rattle.std.proofs.Common.{◌≡◌, ℕ, ◌+◌, ◌-◌, ◌<◌, ◌≤◌, ◌⊎◌, inl, inr, List, [], ◌∷◌, ◌++◌, length, map, get_or, refl}
-use Rattle.std.proofs.Common.{ap, sym, subst, ◌∙◌, append_assoc, arith}
+-- The words of the joins of a set in order.
+use Rattle.std.proofs.Common.{◌≡◌, ℕ, zero, suc, ◌+◌, ◌-◌, ◌<◌, ◌≤◌, ◌⊎◌, inl, inr, List, length, map}
+use Rattle.std.proofs.Common.{get_or, refl, ap, sym, subst, ◌∙◌, arith}
 use Rattle.std.specs.List.{All, Contains}
-use Rattle.std.specs.List.Sorted.{IsStrictlyIncreasing}
 use Rattle.std.proofs.lemmas.Bool.{cases_lt}
-use Rattle.std.proofs.lemmas.List.{get_or_append_left, get_or-append_right, get_or-map, get_or_default, length-map}
-use Rattle.std.proofs.lemmas.List.{length-append}
-use Rattle.std.proofs.lemmas.List.Elements.{All-map, All-append, Contains-append_left, Contains-append_right}
+use Rattle.std.proofs.lemmas.List.{get_or-map, length-map}
+use Rattle.std.proofs.lemmas.List.Elements.{All-map}
 use Rattle.query_core.specs.Keys.{IsInRange, IsGroup, key_number, top_of}
-use Rattle.query_core.specs.Expressions.{fields, fields_of, packed, word_of}
-use Rattle.query_core.specs.ByKind.{expr, join, join_by, IsJoinBy, IsOf}
+use Rattle.query_core.specs.Expressions.{fields, fields_of, children_of, packed, word_of, FallsInto, IsJoinNumber}
+use Rattle.query_core.specs.Expressions.{AreInRange, IsPacked}
+use Rattle.query_core.specs.Finding.{expr, number_of, IsAt, IsBefore, IsHeldBy, IsJoined}
 use Rattle.query_core.specs.declared.query.Query.{Query}
+use Rattle.query_core.specs.declared.words.KeyParts.{KeyParts}
 use Rattle.query_core.specs.declared.words.KeyParts.TheVariants.{Join, Agg}
 use Rattle.query_core.specs.declared.expressions.Logical.TheVariants.{NJoin}
+use Rattle.query_core.specs.declared.expressions.Operator.{Operator}
 use Rattle.query_core.specs.declared.expressions.Operator.TheVariants as operators
-use Rattle.query_core.specs.declared.expressions.Children.TheVariants.{Zero}
+use Rattle.query_core.specs.declared.expressions.Children.TheVariants.{Zero, Two}
+use Rattle.query_core.specs.declared.expressions.Fields.{Fields}
 use Rattle.query_core.specs.declared.expressions.ExprParts.{ExprParts}
-use Rattle.query_core.specs.declared.kinds.JoinKind.{JoinKind}
-use Rattle.query_core.specs.declared.kinds.JoinKind.TheVariants.{Logical, Hash, Merge, Loop}
-use Rattle.query_core.proofs.ExpressionLemmas.{key_small}
-use Rattle.query_core.proofs.GroupKinds.{candidate_kind, kind_candidate}
-use Rattle.query_core.proofs.Joins.{join_ordered, sides_in_range}
+use Rattle.query_core.specs.declared.expressions.TheConstants.{FIRST_JOIN, AFTER_JOINS}
+use Rattle.query_core.proofs.ExpressionLemmas.{key_small, fields_small, fields_same, join_there}
+use Rattle.query_core.proofs.Finding.{candidate_held, held_candidate, held_packed}
+use Rattle.query_core.proofs.Implementations.{number_in, set_alone, shape_children, two_held, two_index}
+use Rattle.query_core.proofs.Joins.{sides_in_range}
+use Rattle.request_props.proofs.WordsOfKinds.{IsWordOf, AreWordsOf, words_as, words_of_both, word_of_one}
 use Rattle.request_props.specs.Candidates.{AreCandidatesOf}
 use Rattle.request_props.specs.Joins.{tops_of, AreSides, left_of, AreAllSides, AreBothInRange, join_word, join_words}
-use Rattle.request_props.specs.Joins.{many_word, words_over}
+use Rattle.request_props.specs.Joins.{words_by, words_over}
 use Rattle.request_props.specs.declared.candidates.sides.Sides.{Sides}
-
--- ---- ascending numbers
-
--- ascending numbers behind others that are all below them
-rises_append : (xs ys : List ℕ) → IsStrictlyIncreasing xs → IsStrictlyIncreasing ys
-    → ((x y : ℕ) → Contains xs x → Contains ys y → x < y) → IsStrictlyIncreasing (xs ++ ys)
-rises_append xs ys first second apart k within = elim (cases_lt (k + 1) (length xs)) [
-  | inl inside ↦ rw (get_or_append_left xs ys 0 k (omega (arith, inside)))
-      (rw (get_or_append_left xs ys 0 (k + 1) inside) (first k inside))
-  | inr past ↦ elim (cases_lt k (length xs)) [
-    | inl last ↦
-        let there : 0 < length ys = omega (arith, length-append xs ys, within, last) in
-        let at : k + 1 - length xs ≡ 0 = omega (arith, past, last) in
-        rw (get_or_append_left xs ys 0 k last) (rw (get_or-append_right xs ys (length xs) (k + 1) 0 refl past) (rw at
-        (apart (get_or xs k 0) (get_or ys 0 0) (k, last, get_or_default xs k _ _ last)
-        (0, there, get_or_default ys 0 _ _ there))))
-    | inr beyond ↦
-        let next : k + 1 - length xs ≡ (k - length xs) + 1 = omega (arith, beyond) in
-        let inside : (k - length xs) + 1 < length ys = omega (arith, length-append xs ys, within, beyond) in
-        rw (get_or-append_right xs ys (length xs) k 0 refl beyond)
-        (rw (get_or-append_right xs ys (length xs) (k + 1) 0 refl past) (rw next (second (k - length xs) inside)))
-  ]
-]
-
--- ---- words of a kind
-
--- the word is that of an expression of the kind
-abbrev pub IsWordOf : (ExprParts → Type 0) → ℕ → Type 0
-IsWordOf Kind word = (e : ExprParts) × Kind e × (word_of e ≡ word)
-
--- the words of all expressions of the kind, and no others, strictly ascending
-pub record AreWordsOf (Kind : ExprParts → Type 0) (words : List ℕ) : Type 0 where
-  pub ascending : IsStrictlyIncreasing words
-  pub sound : All (IsWordOf Kind) words
-  pub complete : (e : ExprParts) → Kind e → Contains words (word_of e)
-
--- the words of the kind are below the limit
-abbrev pub AreBelow : (ExprParts → Type 0) → ℕ → Type 0
-AreBelow Kind limit = (e : ExprParts) → Kind e → word_of e < limit
-
--- the words of the kind are from the limit on
-abbrev pub AreFrom : (ExprParts → Type 0) → ℕ → Type 0
-AreFrom Kind limit = (e : ExprParts) → Kind e → limit ≤ word_of e
-
--- a word among those of a kind is that of an expression
-word_among : (Kind : ExprParts → Type 0) (words : List ℕ) (w : ℕ) → AreWordsOf Kind words → Contains words w
-    → IsWordOf Kind w
-word_among Kind words w are (k, within, is) = subst (IsWordOf Kind) is (are.sound k w within)
-
-module _ (S T : ExprParts → Type 0) where
-  -- the words of two kinds, of which the first comes before the second
-  pub words_of_both : (limit : ℕ) (first second : List ℕ) → AreBelow S limit → AreFrom T limit → AreWordsOf S first
-      → AreWordsOf T second
-      → AreWordsOf (λ e. S e ⊎ T e) (first ++ second)
-  words_of_both limit first second below from are others = record {
-    ascending = rises_append first second are.ascending others.ascending (λ v w there here.
-        let (x, one, v_is) = word_among S first v are there in
-        let (y, other, w_is) = word_among T second w others here in
-        omega (arith, below x one, from y other, v_is, w_is));
-    sound = All-append (IsWordOf (λ e. S e ⊎ T e)) first second
-        (λ k d within. let (e, kind, is) = are.sound k d within in (e, inl kind, is))
-        (λ k d within. let (e, kind, is) = others.sound k d within in (e, inr kind, is));
-    complete = λ e both. elim both [
-      | inl one ↦ Contains-append_left first second (word_of e) (are.complete e one)
-      | inr other ↦ Contains-append_right first second (word_of e) (others.complete e other)
-    ];
-  }
-
-  -- both kinds are below, where each is
-  pub both_below : (limit : ℕ) → AreBelow S limit → AreBelow T limit → AreBelow (λ e. S e ⊎ T e) limit
-  both_below limit first second e both = elim both [ inl one ↦ first e one | inr other ↦ second e other ]
-
-  -- both kinds come from there on, where each does
-  pub both_from : (limit : ℕ) → AreFrom S limit → AreFrom T limit → AreFrom (λ e. S e ⊎ T e) limit
-  both_from limit first second e both = elim both [ inl one ↦ first e one | inr other ↦ second e other ]
-
--- one expression has one word
-word_of_one : (e : ExprParts) → AreWordsOf (λ x. x ≡ e) (word_of e ∷ [])
-word_of_one e = record {
-  ascending = λ k within. absurd (omega (arith, within));
-  sound = λ k d within. (e, refl, let first : k ≡ 0 = omega (arith, within) in rw first refl);
-  complete = λ x same. (0, omega arith, ap word_of (sym same));
-}
-
--- ---- words of joins
-
--- the number of the operator
-abbrev operator_number : JoinKind → ℕ
-operator_number kind = (fields_of (join_by kind Agg Agg)).number
-
--- where the words of a set's operators of this number begin
-abbrev words_from : ℕ → ℕ → ℕ
-words_from set number = packed (key_number (Join set)) (fields number 0 Zero)
 
 -- the join of all tables of a set
 abbrev many_of : ℕ → ExprParts
 many_of set = expr (Join set) (operators.Logical NJoin)
 
--- it comes before the joins of two groups
-many_below : (set : ℕ) → AreBelow (λ e. e ≡ many_of set) (words_from set (operator_number Logical))
-many_below set e same = omega (arith, ap word_of same)
+-- where the words of a set's operators of this number begin
+abbrev words_from : ℕ → ℕ → ℕ
+words_from set number = packed (key_number (Join set)) (fields number 0 Zero)
 
 -- what stands past the end of a list of sides
 abbrev past_end : Sides
 past_end = record { left = Agg; right = Agg }
 
+-- the word of what a group holds tells its number
+word_below : (set number : ℕ) (e : ExprParts) → IsPacked e → e.group ≡ Join set → number_of e < number
+    → word_of e < words_from set number
+word_below set number e in_e same less =
+    let small = fields_small e in_e in
+    let key : key_number e.group ≡ key_number (Join set) = ap key_number same in
+    omega arith
+
+word_at_least : (set number : ℕ) (e : ExprParts) → e.group ≡ Join set → number_of e ≡ number
+    → words_from set number ≤ word_of e
+word_at_least set number e same is =
+    let key : key_number e.group ≡ key_number (Join set) = ap key_number same in
+    omega arith
+
+-- joins of a set by one operator stand in the order of their left sides
+words_ordered : (set number : ℕ) (one other : Sides) → AreBothInRange one → left_of one < left_of other
+    → join_word set number one < join_word set number other
+words_ordered set number one other known less = omega (arith, key_small one.right known.1, less)
+
+-- the parts of a join fit a word
+pub join_packed : (set number : ℕ) (sides : Sides) (o : Operator) → IsInRange (Join set) → AreBothInRange sides
+    → fields_of o ≡ fields number 0 (Two sides.left sides.right) → IsPacked (expr (Join set) o)
+join_packed set number sides o small known is = record {
+  group = small;
+  index = omega (arith, ap (λ (f : Fields). f.index) is);
+  children = subst AreInRange (sym (ap (λ (f : Fields). f.children) is)) known;
+}
+
 module _ (q : Query) (set : ℕ) (small : IsInRange (Join set)) where
-  -- the words of the joins of a kind lie between where those of its operator begin and where those of the next do
-  joins_below : (kind : JoinKind) (limit : ℕ) → words_from set (operator_number kind + 1) ≤ limit
-      → AreBelow (IsJoinBy q set kind) limit
-  joins_below Logical limit least e (a, b, falls, same) = let range = sides_in_range q set small Logical a b falls in
-      omega (arith, least, ap word_of same, key_small (top_of q a) range.0, key_small (top_of q b) range.1)
-  joins_below Hash limit least e (a, b, falls, same) = let range = sides_in_range q set small Hash a b falls in
-      omega (arith, least, ap word_of same, key_small (top_of q a) range.0, key_small (top_of q b) range.1)
-  joins_below Merge limit least e (a, b, falls, same) = let range = sides_in_range q set small Merge a b falls in
-      omega (arith, least, ap word_of same, key_small (top_of q a) range.0, key_small (top_of q b) range.1)
-  joins_below Loop limit least e (a, b, falls, same) = let range = sides_in_range q set small Loop a b falls in
-      omega (arith, least, ap word_of same, key_small (top_of q a) range.0, key_small (top_of q b) range.1)
-
-  joins_from : (kind : JoinKind) (limit : ℕ) → limit ≤ words_from set (operator_number kind)
-      → AreFrom (IsJoinBy q set kind) limit
-  joins_from Logical limit most e (a, b, falls, same) = omega (arith, most, ap word_of same)
-  joins_from Hash limit most e (a, b, falls, same) = omega (arith, most, ap word_of same)
-  joins_from Merge limit most e (a, b, falls, same) = omega (arith, most, ap word_of same)
-  joins_from Loop limit most e (a, b, falls, same) = omega (arith, most, ap word_of same)
-
   -- groups of sides are some that a query can have
   in_range : (sides : Sides) → AreSides q set sides → AreBothInRange sides
-  in_range sides (a, b, falls, is) = subst AreBothInRange (sym is) (sides_in_range q set small Logical a b falls)
+  in_range sides (a, b, falls, is) = subst AreBothInRange (sym is) (sides_in_range q set small a b falls)
+
+  -- the joins by the operator of this number
+  abbrev IsJoinBy : ℕ → ExprParts → Type 0
+  IsJoinBy number e = IsAt (IsJoined q set) number_of number e
+
+  -- each has the word of its sides
+  word_by_sides : (number : ℕ) (e : ExprParts) → IsJoinBy number e
+      → (a b : ℕ) × FallsInto q set a b × (word_of e ≡ join_word set number (tops_of q a b))
+  word_by_sides number e ((held, (a, b, falls, over)), is) =
+      let index = two_index e.operator (top_of q a) (top_of q b) over in
+      let same = fields_same (fields_of e.operator) (fields number 0 (Two (top_of q a) (top_of q b))) is index over in (
+        a,
+        b,
+        falls,
+        ap (λ (g : KeyParts). packed (key_number g) (fields_of e.operator)) held.0
+            ∙ ap (packed (key_number (Join set))) same,
+      )
+
+  -- and each pair of sides has its join
+  joins_sides : (number a b : ℕ) → IsJoinNumber number → FallsInto q set a b
+      → (e : ExprParts) × IsJoinBy number e × (word_of e ≡ join_word set number (tops_of q a b))
+  joins_sides number a b joins falls =
+      let (o, is) = join_there number (top_of q a) (top_of q b) joins in
+      let over : children_of o ≡ Two (top_of q a) (top_of q b) = ap (λ (f : Fields). f.children) is in
+      let join = two_held q (Join set) o (top_of q a) (top_of q b) over (set, a, b, refl, falls, refl, refl) in (
+        expr (Join set) o,
+        (((refl, join), (a, b, falls, over)), ap (λ (f : Fields). f.number) is),
+        ap (packed (key_number (Join set))) is,
+      )
+
+  -- what a set of tables can hold is the join of all, or a join of two sides
+  held_joins : (e : ExprParts) → IsHeldBy q (Join set) e → (e ≡ many_of set) ⊎ IsJoined q set e
+  held_joins e (same, shape) = elim (shape_children q (Join set) e.operator shape) [
+    | inl none ↦ inl (ap (λ (g : KeyParts). expr g e.operator) same
+        ∙ ap (expr (Join set)) (set_alone q set e.operator shape none))
+    | inr (a, b, falls, over) ↦ inr ((same, shape), (a, b, falls, over))
+  ]
+
+  -- the numbers of its joins are those of joins
+  joined_number : (e : ExprParts) → IsJoined q set e → IsJoinNumber (number_of e)
+  joined_number e (held, (a, b, falls, over)) = number_in e.operator (top_of q a) (top_of q b) over
 
   module _ (found : List Sides) (all : AreAllSides q set found) where
     pub all_in_range : All AreBothInRange found
     all_in_range k d within = in_range (get_or found k d) (all.sound k d within)
 
-    -- the words of the joins of one kind over all sides
-    words_of_kind : (kind : JoinKind) → AreWordsOf (IsJoinBy q set kind) (join_words set kind found)
-    words_of_kind kind = record {
+    -- the words of the joins by one operator over all sides
+    words_of_number : (number : ℕ) → IsJoinNumber number → AreWordsOf (IsJoinBy number) (join_words set number found)
+    words_of_number number joins = record {
       ascending = λ k within.
-          let next : k + 1 < length found = omega (arith, length-map found (join_word set kind), within) in
+          let next : k + 1 < length found = omega (arith, length-map found (join_word set number), within) in
           let here : k < length found = omega (arith, next) in
           let inside : k + 1 < length (map left_of found) = omega (arith, length-map found left_of, next) in
           let one = get_or found k past_end in
@@ -175,66 +135,76 @@ module _ (q : Query) (set : ℕ) (small : IsInRange (Join set)) where
             get_or-map left_of found k past_end 0 here,
             get_or-map left_of found (k + 1) past_end 0 next,
           ) in
-          let later = join_ordered set kind one.left one.right other.left other.right
-          (in_range one (all.sound k past_end here)).1 less in
+          let later = words_ordered set number one other (in_range one (all.sound k past_end here)) less in
           omega (
             arith,
             later,
-            get_or-map (join_word set kind) found k past_end 0 here,
-            get_or-map (join_word set kind) found (k + 1) past_end 0 next,
+            get_or-map (join_word set number) found k past_end 0 here,
+            get_or-map (join_word set number) found (k + 1) past_end 0 next,
           );
-      sound = All-map (IsWordOf (IsJoinBy q set kind)) (join_word set kind) found
+      sound = All-map (IsWordOf (IsJoinBy number)) (join_word set number) found
           (λ k d within. let (a, b, falls, is) = all.sound k d within in
-          (join q set kind a b, (a, b, falls, refl), ap (join_word set kind) (sym is)));
-      complete = λ e (a, b, falls, same).
+          let (e, kind, word) = joins_sides number a b joins falls in
+          (e, kind, word ∙ ap (join_word set number) (sym is)));
+      complete = λ e kind.
+          let (a, b, falls, word) = word_by_sides number e kind in
           let (k, within, is) = all.complete a b falls in (
             k,
-            omega (arith, length-map found (join_word set kind), within),
-            get_or-map (join_word set kind) found k (tops_of q a b) (word_of e) within
-                ∙ (ap (join_word set kind) is ∙ ap word_of (sym same)),
+            omega (arith, length-map found (join_word set number), within),
+            get_or-map (join_word set number) found k (tops_of q a b) (word_of e) within
+                ∙ (ap (join_word set number) is ∙ sym word),
           );
     }
 
-    -- those of all tables, and of all kinds of joins
-    words_of_all : AreWordsOf (IsOf q (Join set))
-        (word_of (many_of set) ∷ ((join_words set Logical found ++ join_words set Hash found) ++ (join_words set Merge
-        found ++ join_words set Loop found)))
-    words_of_all =
-        let logical = IsJoinBy q set Logical in
-        let hash = IsJoinBy q set Hash in
-        let merge = IsJoinBy q set Merge in
-        let by_loop = IsJoinBy q set Loop in
-        let first : AreWordsOf (λ e. logical e ⊎ hash e) (join_words set Logical found ++ join_words set Hash found) =
-        words_of_both logical hash (words_from set (operator_number Hash)) _ _ (joins_below Logical _ (omega arith))
-        (joins_from Hash _ (omega arith)) (words_of_kind Logical) (words_of_kind Hash) in
-        let second : AreWordsOf (λ e. merge e ⊎ by_loop e) (join_words set Merge found ++ join_words set Loop found) =
-        words_of_both merge by_loop (words_from set (operator_number Loop)) _ _ (joins_below Merge _ (omega arith))
-        (joins_from Loop _ (omega arith)) (words_of_kind Merge) (words_of_kind Loop) in
-        let four = words_of_both (λ e. logical e ⊎ hash e) (λ e. merge e ⊎ by_loop e)
-        (words_from set (operator_number Merge)) _ _
-        (both_below logical hash _ (joins_below Logical _ (omega arith)) (joins_below Hash _ (omega arith)))
-        (both_from merge by_loop _ (joins_from Merge _ (omega arith)) (joins_from Loop _ (omega arith))) first second in
-        words_of_both (λ e. e ≡ many_of set) (λ e. (logical e ⊎ hash e) ⊎ (merge e ⊎ by_loop e))
-        (words_from set (operator_number Logical)) (word_of (many_of set) ∷ []) _
-        (many_below set)
-        (both_from (λ e. logical e ⊎ hash e) (λ e. merge e ⊎ by_loop e) _
-        (both_from logical hash _ (joins_from Logical _ (omega arith)) (joins_from Hash _ (omega arith)))
-        (both_from merge by_loop _ (joins_from Merge _ (omega arith)) (joins_from Loop _ (omega arith))))
-        (word_of_one (many_of set)) four
+    module _ (known : IsGroup q (Join set)) where
+      -- the word of the join of all tables, and behind it those of the first operators over two groups
+      words_upto : (place : ℕ) → place ≤ AFTER_JOINS - FIRST_JOIN
+          → AreWordsOf (IsBefore (IsHeldBy q (Join set)) number_of (FIRST_JOIN + place)) (words_by set found place)
+      words_upto zero upto =
+          words_as (λ e. e ≡ many_of set) (IsBefore (IsHeldBy q (Join set)) number_of (FIRST_JOIN + zero)) _
+          (λ e same. subst (IsBefore (IsHeldBy q (Join set)) number_of (FIRST_JOIN + zero)) (sym same)
+          ((refl, (set, refl)), omega arith))
+          (λ e (held, less). elim (held_joins e held) [
+            | inl many ↦ many
+            | inr joined ↦ absurd (omega (arith, (joined_number e joined).0, less))
+          ])
+          (word_of_one (many_of set))
+      words_upto (suc place) upto =
+          let Held = IsHeldBy q (Join set) in
+          let number = FIRST_JOIN + place in
+          words_as (λ e. IsBefore Held number_of number e ⊎ IsJoinBy number e)
+          (IsBefore Held number_of (FIRST_JOIN + suc place)) _
+          (λ e both. elim both [
+            | inl (held, less) ↦ (held, omega (arith, less))
+            | inr ((held, joined), is) ↦ (held, omega (arith, is))
+          ])
+          (λ e (held, less). elim (cases_lt (number_of e) number) [
+            | inl lesser ↦ inl (held, lesser)
+            | inr more ↦ elim (held_joins e held) [
+              | inl many ↦ absurd (omega (arith, more, ap number_of many))
+              | inr joined ↦ inr (joined, omega (arith, less, more))
+            ]
+          ])
+          (words_of_both (IsBefore Held number_of number) (IsJoinBy number) (words_from set number)
+          (words_by set found place) (join_words set number found)
+          (λ e (held, less). word_below set number e (held_packed q (Join set) known e held) held.0 less)
+          (λ e ((held, joined), is). word_at_least set number e held.0 is)
+          (words_upto place (omega (arith, upto))) (words_of_number number (omega arith, omega (arith, upto))))
 
-    -- they are the words of what the group can hold
-    pub candidates_over : IsGroup q (Join set) → AreCandidatesOf q (Join set) (words_over set found)
-    candidates_over known =
-        let are = subst (AreWordsOf (IsOf q (Join set)))
-        (sym (append_assoc (many_word set ∷ (join_words set Logical found ++ join_words set Hash found))
-        (join_words set Merge found) (join_words set Loop found))) words_of_all in
-        record {
-          ascending = are.ascending;
-          sound = λ k d within.
-              let (e, kind, is) = are.sound k d within in
-              let own = kind_candidate q (Join set) e known kind in
-              (e, own.0, own.1, is);
-          complete = λ w (e, candidate, same, is).
-              subst (Contains (words_over set found)) is
-              (are.complete e (candidate_kind q (Join set) e candidate same));
-        }
+      -- they are the words of what the group can hold
+      pub candidates_over : AreCandidatesOf q (Join set) (words_over set found)
+      candidates_over =
+          let are = words_upto (AFTER_JOINS - FIRST_JOIN) (omega arith) in
+          record {
+            ascending = are.ascending;
+            sound = λ k d within.
+                let (e, (held, less), is) = are.sound k d within in
+                (e, held_candidate q (Join set) known e held, held.0, is);
+            complete = λ w (e, candidate, same, is).
+                let held = candidate_held q (Join set) e candidate same in
+                let less : number_of e < FIRST_JOIN + (AFTER_JOINS - FIRST_JOIN) = elim (held_joins e held) [
+                  | inl many ↦ omega (arith, ap number_of many)
+                  | inr joined ↦ omega (arith, (joined_number e joined).1)
+                ] in
+                subst (Contains (words_over set found)) is (are.complete e (held, less));
+          }

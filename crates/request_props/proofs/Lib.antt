@@ -9,6 +9,7 @@ pub mod Orders
 pub mod Ranges
 pub mod SideLemmas
 pub mod SideLists
+pub mod WordsOfKinds
 pub mod JoinWords
 pub mod CandidateLists
 pub mod NumberSets

@@ -16,7 +16,6 @@ use Rattle.query_core.specs.Expressions.{FallsInto}
 use Rattle.query_core.specs.declared.keys.TheConstants.{FIRST_SET_KEY, ONE_TABLE_KEYS}
 use Rattle.query_core.specs.declared.query.Query.{Query}
 use Rattle.query_core.specs.declared.words.KeyParts.TheVariants.{Get, Filter, Join}
-use Rattle.query_core.specs.declared.kinds.JoinKind.TheVariants as joins
 use Rattle.query_core.proofs.Bits.{bit-or, same_tables}
 use Rattle.query_core.proofs.GroupLemmas.{exponent_lt}
 use Rattle.query_core.proofs.Joins.{sides_one}
@@ -104,7 +103,7 @@ module _ (q : Query) (set : ℕ) where
         | inr more ↦
             let key : key_number (top_of q a) ≡ key_number (top_of q x) =
             omega (arith, less, more, at, ap left_of is) in
-            let one = sides_one q set small joins.Logical a b x y falls other key in
+            let one = sides_one q set small a b x y falls other key in
             let same : new ≡ tops_of q a b = is ∙ (ap (λ z. tops_of q z y) (sym one.0)
             ∙ ap (tops_of q a) (sym one.1)) in
             subst (Contains (found ++ new ∷ [])) same (Contains-push found new)

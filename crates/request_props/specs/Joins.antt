@@ -1,18 +1,18 @@
 -- The pairs of sides into which a set of tables falls, and the words of the joins over them: cited by private functions
 -- alone.
-use Rattle.std.specs.Prelude.{ℕ, ◌≡◌, ◌<◌, List, [], ◌∷◌, ◌++◌, map}
+use Rattle.std.specs.Prelude.{ℕ, zero, suc, ◌≡◌, ◌+◌, ◌-◌, ◌<◌, List, [], ◌∷◌, ◌++◌, map}
 use Rattle.std.specs.List.{All, Contains}
 use Rattle.std.specs.List.Sorted.{IsStrictlyIncreasing}
 use Rattle.query_core.specs.Connected.{IsConnected}
 use Rattle.query_core.specs.Keys.{key_number, IsInRange, top_of}
-use Rattle.query_core.specs.Expressions.{word_of, FallsInto}
-use Rattle.query_core.specs.ByKind.{expr, join_by}
+use Rattle.query_core.specs.Expressions.{fields, packed, word_of, FallsInto}
+use Rattle.query_core.specs.Finding.{expr}
+use Rattle.query_core.specs.declared.expressions.Children.TheVariants.{Two}
+use Rattle.query_core.specs.declared.expressions.TheConstants.{FIRST_JOIN, AFTER_JOINS}
 use Rattle.query_core.specs.declared.query.Query.{Query}
 use Rattle.query_core.specs.declared.words.KeyParts.TheVariants.{Join}
 use Rattle.query_core.specs.declared.expressions.Logical.TheVariants.{NJoin}
 use Rattle.query_core.specs.declared.expressions.Operator.TheVariants as operators
-use Rattle.query_core.specs.declared.kinds.JoinKind.{JoinKind}
-use Rattle.query_core.specs.declared.kinds.JoinKind.TheVariants as joins
 use Rattle.request_props.specs.declared.candidates.sides.Sides.{Sides}
 
 -- the tables can be a side of a join: they are connected, and not none
@@ -56,20 +56,23 @@ pub record AreSidesBelow (q : Query) (set bound : ℕ) (found : List Sides) : Ty
 abbrev pub AreBothInRange : Sides → Type 0
 AreBothInRange sides = IsInRange sides.left × IsInRange sides.right
 
--- the word of the join of a set over its sides
-abbrev pub join_word : ℕ → JoinKind → Sides → ℕ
-join_word set kind sides = word_of (expr (Join set) (join_by kind sides.left sides.right))
+-- the word of the join of a set over its sides by the operator of this number
+abbrev pub join_word : ℕ → ℕ → Sides → ℕ
+join_word set number sides = packed (key_number (Join set)) (fields number 0 (Two sides.left sides.right))
 
 -- the words of these joins
-abbrev pub join_words : ℕ → JoinKind → List Sides → List ℕ
-join_words set kind found = map (join_word set kind) found
+abbrev pub join_words : ℕ → ℕ → List Sides → List ℕ
+join_words set number found = map (join_word set number) found
 
 -- the word of the join of all tables of a set
 abbrev pub many_word : ℕ → ℕ
 many_word set = word_of (expr (Join set) (operators.Logical NJoin))
 
--- behind it the words of the joins over these sides, kind by kind
+-- behind it the words of the joins over these sides, by as many operators
+abbrev pub words_by : ℕ → List Sides → ℕ → List ℕ
+words_by set found zero = many_word set ∷ []
+words_by set found (suc place) = words_by set found place ++ join_words set (FIRST_JOIN + place) found
+
+-- by all that stand on two groups
 abbrev pub words_over : ℕ → List Sides → List ℕ
-words_over set found =
-    ((((many_word set ∷ []) ++ join_words set joins.Logical found) ++ join_words set joins.Hash found) ++ join_words set
-    joins.Merge found) ++ join_words set joins.Loop found
+words_over set found = words_by set found (AFTER_JOINS - FIRST_JOIN)

@@ -1,21 +1,24 @@
 //! The words of what a group of several tables can hold.
 #![tactic(auto)]
 
-ghost use Rattle.std.specs.Prelude.{◌≡◌, ◌<◌, [], ◌++◌, IfOk, OnOk};
+ghost use Rattle.std.specs.Prelude.{◌≡◌, ◌+◌, ◌<◌, [], ◌++◌, IfOk, OnOk};
 ghost use Rattle.std.specs.List.{All};
 ghost use Rattle.query_core.specs.Keys.{IsInRange, IsGroup};
-ghost use Rattle.query_core.specs.Expressions.{word_of, IsPacked};
-ghost use Rattle.query_core.specs.ByKind.{expr};
+ghost use Rattle.query_core.specs.Expressions.{word_of, IsJoinNumber, IsPacked};
+ghost use Rattle.query_core.specs.Finding.{expr};
 ghost use Rattle.request_props.specs.Groups.{AreKeys};
 ghost use Rattle.request_props.specs.Candidates.{AreCandidatesOf};
-ghost use Rattle.request_props.specs.Joins.{join_words, words_over, AreBothInRange};
+ghost use Rattle.request_props.specs.Joins.{join_word as word_of_join, join_words, words_over, AreBothInRange};
 
 use crate::candidates::sides::{Sides, all_sides};
 use orca_base::List;
-use query_core::{Expr, ExprParts, JoinKind, KeyParts, Logical, Operator, Query};
+use query_core::{AFTER_JOINS, Expr, ExprParts, FIRST_JOIN, KeyParts, Logical, Operator, Query};
 use std::alloc::{AllocError, Global};
 
-/// The words of a group of several tables. Those of one kind of joins come before those of the next.
+// How many operators stand on two groups.
+const JOINS: u32 = AFTER_JOINS - FIRST_JOIN;
+
+/// The words of a group of several tables. Those of one operator over two groups come before those of the next.
 pub(crate) fn words_of_joins(
     alloc: Global,
     query: &Query,
@@ -36,7 +39,7 @@ fn words_by_sides(alloc: Global, set: u32, sides: &[Sides]) -> Result<List<u64>,
     requires in_range { All AreBothInRange sides.now }
     ensures { IfOk result (λ words. words ≡ words_over set sides.now) }
 {
-    let mut words = List::of(Vec::with_capacity(alloc, 4 * sides.len() + 1)?);
+    let mut words = List::of(Vec::with_capacity(alloc, JOINS as usize * sides.len() + 1)?);
     push_words(&mut words, set, sides)?;
     Ok(words)
 }
@@ -48,28 +51,38 @@ fn push_words(words: &mut List<u64>, set: u32, sides: &[Sides]) -> Result<(), Al
     ensures { OnOk result (words.new ≡ words_over set sides.now) }
 {
     words.push(word(set, Operator::Logical(Logical::NJoin)))?;
-    push_joins(words, set, JoinKind::Logical, sides)?;
-    push_joins(words, set, JoinKind::Hash, sides)?;
-    push_joins(words, set, JoinKind::Merge, sides)?;
-    push_joins(words, set, JoinKind::Loop, sides)
+    for place in 0..JOINS {
+        push_joins(words, set, FIRST_JOIN + place, sides)?;
+    }
+    Ok(())
 }
 
-// Adds the words of the joins of one kind over these sides.
+// Adds the words of the joins by the operator of this number over these sides.
 fn push_joins(
     words: &mut List<u64>,
     set: u32,
-    kind: JoinKind,
+    number: u32,
     sides: &[Sides],
 ) -> Result<(), AllocError>
+    requires joins { IsJoinNumber number }
     requires small { IsInRange (KeyParts.Join set) }
     requires in_range { All AreBothInRange sides.now }
-    ensures { OnOk result (words.new ≡ words.old ++ join_words set kind sides.now) }
+    ensures { OnOk result (words.new ≡ words.old ++ join_words set number sides.now) }
 {
     for place in 0..sides.len() {
-        let Sides { left, right } = sides[place];
-        words.push(word(set, kind.of(left, right)))?;
+        words.push(join_word(set, number, sides[place]))?;
     }
     Ok(())
+}
+
+// The word of the join by the operator of this number over the sides.
+fn join_word(set: u32, number: u32, sides: Sides) -> u64
+    requires joins { IsJoinNumber number }
+    requires small { IsInRange (KeyParts.Join set) }
+    requires in_range { AreBothInRange sides }
+    ensures { result ≡ word_of_join set number sides }
+{
+    word(set, Operator::on_two(number, sides.left, sides.right))
 }
 
 // The word of the set's group and the operator.

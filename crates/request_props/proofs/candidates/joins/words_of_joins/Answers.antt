@@ -1,4 +1,4 @@
--- The joins over all sides, kind by kind, are what the group can hold.
+-- The joins over all sides, operator by operator, are what the group can hold.
 use Rattle.std.proofs.Common.{◌≡◌, subst, sym, ◌∙◌, ap}
 use Rattle.std.specs.List.{All}
 use Rattle.std.proofs.lemmas.Result.{IfOk-weaker}
