@@ -1,12 +1,15 @@
 -- Each child of a goal has a smaller rank.
-use Rattle.std.proofs.Common.{◌≡◌, ℕ, zero, suc, ◌+◌, ◌<◌, ◌≤◌, ap, sym, subst, inl, inr, arith}
+use Rattle.std.proofs.Common.{◌≡◌, ℕ, zero, suc, ◌<◌, ◌≤◌, Some, length, refl, ap, sym, subst, inl, inr, arith}
 use Rattle.query_core.specs.Expressions.{children_of, expr_of}
 use Rattle.query_core.specs.declared.query.Query.{Query}
 use Rattle.query_core.specs.declared.expressions.ExprParts.{ExprParts}
 use Rattle.request_props.specs.declared.request.Dist.{Dist}
-use Rattle.request_props.specs.declared.request.Dist.TheVariants as dists
 use Rattle.request_props.specs.declared.request.Request.{Request}
-use Rattle.plan_space.specs.Enforcers.{EnforcedBy, motions_of, enforcers_by, enforcers_of, Among}
+use Rattle.plan_space.specs.declared.nodes.Motion.{Motion}
+use Rattle.plan_space.specs.declared.nodes.Motion.TheVariants.{Gather}
+use Rattle.plan_space.specs.Enforcers.{EnforcedBy, motion_to, motions_in, enforcers_of, Among}
+use Rattle.plan_space.proofs.Enforcers.{one_motion}
+use Rattle.plan_space.proofs.MotionLaws.{enforcer_for}
 use Rattle.goal_space.specs.Children.{IsChildGoal}
 use Rattle.goal_space.specs.Ranks.{level_of, dist_rank, order_rank, request_rank, rank_of}
 use Rattle.goal_space.specs.Laws.{IsOfCandidate}
@@ -17,53 +20,31 @@ use Rattle.goal_space.proofs.Levels.{FewerTables, child_below}
 
 -- ---- requests
 
-few_dist : (dist : Dist) → dist_rank dist ≤ 1
-few_dist dists.One = omega arith
-few_dist dists.Spread = omega arith
-few_dist dists.Copies = omega arith
-few_dist (dists.Hashed list) = omega arith
-
 few_order : (order : ℕ) → order_rank order ≤ 1
 few_order zero = omega arith
 few_order (suc place) = omega arith
 
 few_request : (wanted : Request) → request_rank wanted ≤ 2
-few_request wanted = omega (arith, few_dist wanted.dist, few_order wanted.order)
+few_request wanted = omega (arith, one_motion (motion_to wanted.dist), few_order wanted.order)
 
--- what an enforcer asks for has a smaller rank than this one
-abbrev AsksLess : ℕ → EnforcedBy → Type 0
-AsksLess rank e = request_rank e.below < rank
+-- where there is a motion to the distribution, it counts
+one_moves : (dist : Dist) (motion : Motion) → motion_to dist ≡ Some motion → dist_rank dist ≡ 1
+one_moves dist motion moves = ap (λ found. length (motions_in found)) moves
 
-less_by : (rank : ℕ) (e other : EnforcedBy) → e ≡ other → AsksLess rank other → AsksLess rank e
-less_by rank e other same less = subst (AsksLess rank) (sym same) less
+one_sorts : (order : ℕ) → 1 ≤ order → order_rank order ≡ 1
+one_sorts zero some = absurd (omega (arith, some))
+one_sorts (suc place) some = refl
 
-motion_less : (dist : Dist) (e : EnforcedBy) → Among e (motions_of dist) → AsksLess (dist_rank dist + 0) e
-motion_less dists.One e (inl same) = less_by 1 e _ same (omega arith)
-motion_less dists.One e (inr none) = absurd none
-motion_less dists.Spread e none = absurd none
-motion_less dists.Copies e (inl same) = less_by 1 e _ same (omega arith)
-motion_less dists.Copies e (inr none) = absurd none
-motion_less (dists.Hashed list) e (inl same) = less_by 1 e _ same (omega arith)
-motion_less (dists.Hashed list) e (inr none) = absurd none
+-- what an enforcer asks for has a smaller rank than what it gives
+abbrev AsksLess : Request → EnforcedBy → Type 0
+AsksLess wanted e = request_rank e.below < request_rank wanted
 
-sorter_less : (dist : Dist) (place : ℕ) (e : EnforcedBy) → Among e (enforcers_by dist (suc place))
-    → AsksLess (dist_rank dist + 1) e
-sorter_less dist place e (inl same) = less_by (dist_rank dist + 1) e _ same (omega arith)
-sorter_less dists.One place e (inr (inl same)) = less_by 2 e _ same (omega arith)
-sorter_less dists.One place e (inr (inr none)) = absurd none
-sorter_less dists.Spread place e (inr none) = absurd none
-sorter_less dists.Copies place e (inr none) = absurd none
-sorter_less (dists.Hashed list) place e (inr none) = absurd none
-
--- an enforcer asks for less than it gives
-enforcer_by : (dist : Dist) (order : ℕ) (e : EnforcedBy) → Among e (enforcers_by dist order)
-    → AsksLess (dist_rank dist + order_rank order) e
-enforcer_by dist zero e among = motion_less dist e among
-enforcer_by dist (suc place) e among = sorter_less dist place e among
-
-enforcer_less : (wanted : Request) (e : EnforcedBy) → Among e (enforcers_of wanted)
-    → request_rank e.below < request_rank wanted
-enforcer_less wanted e among = enforcer_by wanted.dist wanted.order e among
+enforcer_less : (wanted : Request) (e : EnforcedBy) → Among e (enforcers_of wanted) → AsksLess wanted e
+enforcer_less wanted e among = elim (enforcer_for wanted e among) [
+  | inl (motion, is) ↦ subst (AsksLess wanted) (sym is.same) (omega (arith, one_moves wanted.dist motion is.moves))
+  | inr (inl is) ↦ subst (AsksLess wanted) (sym is.same) (omega (arith, one_sorts wanted.order is.some_order))
+  | inr (inr is) ↦ subst (AsksLess wanted) (sym is.same) (omega (arith, one_moves wanted.dist Gather is.moves))
+]
 
 -- ---- goals
 

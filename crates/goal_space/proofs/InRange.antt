@@ -1,5 +1,5 @@
 -- The goals of a query are about groups and candidates, and have words.
-use Rattle.std.proofs.Common.{◌≤◌, length, arith}
+use Rattle.std.proofs.Common.{ℕ, ◌≤◌, Option, None, Some, length, arith}
 use Rattle.query_core.specs.Keys as keys
 use Rattle.query_core.specs.Keys.{IsGroup}
 use Rattle.query_core.specs.Expressions.{expr_of, IsCandidate, IsPacked}
@@ -7,11 +7,10 @@ use Rattle.query_core.specs.declared.query.Query.{Query}
 use Rattle.query_core.specs.declared.words.KeyParts.{KeyParts}
 use Rattle.query_core.specs.declared.expressions.ExprParts.{ExprParts}
 use Rattle.xform_rules.specs.Closure.{IsMember}
+use Rattle.request_props.specs.Dists.{list_asked}
 use Rattle.request_props.specs.Requests as requests
 use Rattle.request_props.specs.Numbered.{lists_of, orders_of}
-use Rattle.request_props.specs.Fitting.{DistFits, Fits}
-use Rattle.request_props.specs.declared.request.Dist.{Dist}
-use Rattle.request_props.specs.declared.request.Dist.TheVariants as dists
+use Rattle.request_props.specs.Fitting.{ListFits, Fits}
 use Rattle.request_props.specs.declared.request.Request.{Request}
 use Rattle.goal_space.specs.Words.{IsInRange}
 use Rattle.goal_space.specs.OfMembers.{IsOfMember}
@@ -31,18 +30,16 @@ of_candidate q candidates (Opt group wanted) known = (candidates _ known).known
 of_candidate q candidates (OptE e wanted) known = candidates (expr_of e) known.1
 
 -- a list of the query has one of 60 numbers
-dist_in_range : (q : Query) (group : KeyParts) (dist : Dist) → length (lists_of q) ≤ 60 → DistFits q group dist
-    → requests.IsDistInRange dist
-dist_in_range q group dists.One few fits = tt
-dist_in_range q group dists.Spread few fits = tt
-dist_in_range q group dists.Copies few fits = tt
-dist_in_range q group (dists.Hashed list) few fits = omega (arith, few, fits.numbered)
+list_in_range : (q : Query) (group : KeyParts) (list : Option ℕ) → length (lists_of q) ≤ 60
+    → ListFits q group list → requests.IsListInRange list
+list_in_range q group None few fits = tt
+list_in_range q group (Some list) few fits = omega (arith, few, fits.numbered)
 
 pub request_in_range : (q : Query) (group : KeyParts) (wanted : Request) → length (lists_of q) ≤ 60
     → length (orders_of q) ≤ 60 → Fits q group wanted
     → requests.IsInRange wanted
 request_in_range q group wanted few_lists few_orders fits = record {
-  list = dist_in_range q group wanted.dist few_lists fits.dist;
+  list = list_in_range q group (list_asked wanted.dist) few_lists fits.dist;
   numbered = omega (arith, few_orders, fits.numbered);
 }
 

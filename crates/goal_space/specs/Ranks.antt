@@ -1,11 +1,11 @@
 -- The rank of a goal, which falls from a goal to its children: by its group, then by its kind, then by its request.
-use Rattle.std.specs.Prelude.{ℕ, zero, suc, ◌+◌, ◌*◌}
+use Rattle.std.specs.Prelude.{ℕ, zero, suc, ◌+◌, ◌*◌, length}
 use Rattle.query_core.specs.declared.words.KeyParts.{KeyParts}
 use Rattle.query_core.specs.declared.words.KeyParts.TheVariants as groups
 use Rattle.xform_rules.specs.Counts.{table_count}
 use Rattle.request_props.specs.declared.request.Dist.{Dist}
-use Rattle.request_props.specs.declared.request.Dist.TheVariants as dists
 use Rattle.request_props.specs.declared.request.Request.{Request}
+use Rattle.plan_space.specs.Enforcers.{motions_of}
 use Rattle.goal_space.specs.declared.goals.GoalKind.{GoalKind}
 use Rattle.goal_space.specs.declared.goals.GoalKind.TheVariants.{Exp, ExpE, Xf, Imp, ImpE, Opt, OptE}
 
@@ -37,12 +37,9 @@ kind_rank (Imp group) = 4
 kind_rank (OptE e wanted) = 5
 kind_rank (Opt group wanted) = 6
 
--- rows that may lie on any segments come first
+-- rows come first that no motion has to bring where they are asked for
 abbrev pub dist_rank : Dist → ℕ
-dist_rank dists.One = 1
-dist_rank dists.Spread = 0
-dist_rank dists.Copies = 1
-dist_rank (dists.Hashed list) = 1
+dist_rank dist = length (motions_of dist)
 
 -- rows in no order come first
 abbrev pub order_rank : ℕ → ℕ

@@ -9,6 +9,7 @@ ghost use Rattle.goal_space.specs.Ranks.{kind_rank as kind_rank_of, level_of, or
 ghost use Rattle.goal_space.specs.Ranks.{rank_of};
 
 use crate::goals::GoalKind;
+use plan_space::motion_to;
 use query_core::{KeyParts, sets};
 use request_props::Dist;
 
@@ -94,11 +95,9 @@ fn dist_rank(dist: Dist) -> u64
     ensures value { result ≡ dist_rank_of dist }
     ensures few { result ≤ 1 }
 {
-    match dist {
-        Dist::Spread => 0,
-        Dist::One => 1,
-        Dist::Copies => 1,
-        Dist::Hashed(_) => 1,
+    match motion_to(dist) {
+        None => 0,
+        Some(_) => 1,
     }
 }
 

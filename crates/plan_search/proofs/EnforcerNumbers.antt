@@ -1,41 +1,50 @@
 -- The numbers of the enforcers for a request, one after the other.
-use Rattle.std.proofs.Common.{◌≡◌, ℕ, zero, suc, ◌<◌, ◌≤◌, ◌+◌, refl, subst, sym, ap, arith}
+use Rattle.std.proofs.Common.{◌≡◌, ℕ, zero, suc, ◌<◌, ◌≤◌, ◌+◌, Bool, true, false, Option, refl, subst, sym, ap, arith}
+use Rattle.std.proofs.lemmas.Option.{slice_get_past}
 use Rattle.std.specs.Option.{option_map_or}
 use Rattle.std.specs.Prelude.{◌^◌, List, [], ◌∷◌, slice_get, None, Some}
 use Rattle.request_props.specs.declared.request.Dist.{Dist}
-use Rattle.request_props.specs.declared.request.Dist.TheVariants.{One, Spread, Copies, Hashed}
 use Rattle.request_props.specs.declared.request.Request.{Request}
-use Rattle.plan_space.specs.declared.nodes.Enforcer.TheVariants as enforcing
+use Rattle.plan_space.specs.declared.nodes.Enforcer.TheVariants.{Sort}
+use Rattle.plan_space.specs.declared.nodes.Motion.{Motion}
 use Rattle.plan_space.specs.declared.nodes.NodeKind.TheVariants as nodes
 use Rattle.plan_space.specs.Nodes.{number_of}
 use Rattle.plan_space.specs.Lines.{request}
-use Rattle.plan_space.specs.Enforcers.{EnforcedBy, enforced, enforcers_by, enforcers_of}
+use Rattle.plan_space.specs.Enforcers.{EnforcedBy, enforced, motion_to, merges_to, motions_in, mergers_if}
+use Rattle.plan_space.specs.Enforcers.{enforcers_by, enforcers_of}
+use Rattle.plan_space.proofs.Enforcers.{few_by}
 use Rattle.plan_search.specs.BestSoFar.{enforcer_number}
 
 abbrev number_at : List EnforcedBy → ℕ → ℕ
 number_at list n = option_map_or (λ e. number_of (nodes.Enforcer e.node)) (slice_get list n) (2 ^ 56)
 
+-- after a motion nothing comes
+next_motion : (found : Option Motion) (n : ℕ) (e : EnforcedBy) → slice_get (motions_in found) n ≡ Some e
+    → number_of (nodes.Enforcer e.node) + 1 ≤ 2 ^ 56
+    → number_of (nodes.Enforcer e.node) + 1 ≤ number_at (motions_in found) (suc n)
+next_motion None n e is small = cc
+next_motion (Some motion) zero e is small = small
+next_motion (Some motion) (suc n) e is small = cc
+
+-- after a sort the merge does, if there is one
+next_merge : (merged : Bool) (below : Request) (o n : ℕ) (e : EnforcedBy) → suc o ≤ 60
+    → slice_get (enforced (Sort (suc o)) below ∷ mergers_if merged (suc o)) n ≡ Some e
+    → number_of (nodes.Enforcer e.node) + 1 ≤ 2 ^ 56
+    → number_of (nodes.Enforcer e.node) + 1
+    ≤ number_at (enforced (Sort (suc o)) below ∷ mergers_if merged (suc o)) (suc n)
+next_merge false below o zero e few is small = small
+next_merge false below o (suc n) e few is small = cc
+next_merge true below o zero e few is small = let same : enforced (Sort (suc o)) below ≡ e = cc in
+    subst (λ x. number_of (nodes.Enforcer x.node) + 1 ≤ 128 + suc o) same (omega arith)
+next_merge true below o (suc zero) e few is small = small
+next_merge true below o (suc (suc n)) e few is small = cc
+
 -- the next enforcer has a greater number
 next_at : (dist : Dist) (order n : ℕ) (e : EnforcedBy) → order ≤ 60 → slice_get (enforcers_by dist order) n ≡ Some e
     → number_of (nodes.Enforcer e.node) + 1 ≤ 2 ^ 56
     → number_of (nodes.Enforcer e.node) + 1 ≤ number_at (enforcers_by dist order) (suc n)
-next_at One zero zero e few is small = small
-next_at One zero (suc n) e few is small = cc
-next_at Spread zero n e few is small = cc
-next_at Copies zero zero e few is small = small
-next_at Copies zero (suc n) e few is small = cc
-next_at (Hashed list) zero zero e few is small = small
-next_at (Hashed list) zero (suc n) e few is small = cc
-next_at One (suc o) zero e few is small = let same : enforced (enforcing.Sort (suc o)) (request One 0) ≡ e = cc in
-    subst (λ x. number_of (nodes.Enforcer x.node) + 1 ≤ 128 + suc o) same (omega arith)
-next_at One (suc o) (suc zero) e few is small = small
-next_at One (suc o) (suc (suc n)) e few is small = cc
-next_at Spread (suc o) zero e few is small = small
-next_at Spread (suc o) (suc n) e few is small = cc
-next_at Copies (suc o) zero e few is small = small
-next_at Copies (suc o) (suc n) e few is small = cc
-next_at (Hashed list) (suc o) zero e few is small = small
-next_at (Hashed list) (suc o) (suc n) e few is small = cc
+next_at dist zero n e few is small = next_motion (motion_to dist) n e is small
+next_at dist (suc o) n e few is small = next_merge (merges_to dist) (request dist 0) o n e few is small
 
 none_next : (list : List EnforcedBy) (n : ℕ) → slice_get list n ≡ None → slice_get list (suc n) ≡ None
 none_next [] n is = refl
@@ -66,14 +75,6 @@ module _ (wanted : Request) (n : ℕ) where
 
 -- there are no more than two enforcers
 pub two_numbers : (wanted : Request) → enforcer_number wanted 2 ≤ 2 ^ 56
-two_numbers wanted = two_at wanted.dist wanted.order
-  where
-    two_at : (dist : Dist) (order : ℕ) → number_at (enforcers_by dist order) 2 ≤ 2 ^ 56
-    two_at One zero = omega arith
-    two_at Spread zero = omega arith
-    two_at Copies zero = omega arith
-    two_at (Hashed list) zero = omega arith
-    two_at One (suc o) = omega arith
-    two_at Spread (suc o) = omega arith
-    two_at Copies (suc o) = omega arith
-    two_at (Hashed list) (suc o) = omega arith
+two_numbers wanted =
+    let past = slice_get_past (enforcers_of wanted) 2 (few_by wanted.dist wanted.order) in
+    subst (λ x. option_map_or (λ e. number_of (nodes.Enforcer e.node)) x (2 ^ 56) ≤ 2 ^ 56) (sym past) (omega arith)

@@ -1,5 +1,5 @@
 -- What enforcers ask for, and the choices that they make.
-use Rattle.std.proofs.Common.{◌≡◌, ℕ, zero, suc, ◌<◌, ◌≤◌, ◌+◌, refl, subst, sym, ◌∙◌, inl, inr, ⊎_elim, arith}
+use Rattle.std.proofs.Common.{◌≡◌, ℕ, ◌<◌, ◌≤◌, ◌+◌, refl, subst, sym, ◌∙◌, inl, inr, ⊎_elim, arith}
 use Rattle.std.specs.Prelude.{◌^◌, [], ◌∷◌, slice_get, Option, None, Some}
 use Rattle.query_core.specs.Keys.{IsGroup}
 use Rattle.query_core.specs.declared.query.Query.{Query}
@@ -8,20 +8,19 @@ use Rattle.xform_rules.specs.Closure.{IsMember}
 use Rattle.cost_units.specs.Cost.{local_cost}
 use Rattle.request_props.specs.Numbered.{IsProps}
 use Rattle.request_props.specs.declared.props.Props.{Props}
-use Rattle.request_props.specs.declared.request.Dist.{Dist}
-use Rattle.request_props.specs.declared.request.Dist.TheVariants.{One, Spread, Copies, Hashed}
 use Rattle.request_props.specs.declared.request.Request.{Request}
 use Rattle.request_props.specs.Fitting.{Fits}
-use Rattle.plan_space.specs.declared.nodes.Enforcer.TheVariants as enforcing
+use Rattle.plan_space.specs.declared.nodes.Enforcer.{Enforcer}
 use Rattle.plan_space.specs.declared.nodes.NodeKind.TheVariants as nodes
 use Rattle.plan_space.specs.Nodes.{number_of, Tree, over}
-use Rattle.plan_space.specs.Lines.{request}
 use Rattle.plan_space.specs.Gives.{kid_of}
 use Rattle.plan_space.specs.Cost.{shape_of, most_of_all}
-use Rattle.plan_space.specs.Enforcers.{EnforcedBy, enforced, enforcers_by, enforcers_of, Among}
+use Rattle.plan_space.specs.Enforcers.{EnforcedBy, enforcers_of, Among}
 use Rattle.plan_space.specs.Choices.{Beats, IsEnforcerSettled, enforced_choice}
 use Rattle.plan_space.proofs.Enforcers.{among_at, first_or_second}
 use Rattle.plan_space.specs.Laws.{ChoicesServe, EnforcersAskWhatFits, LeastCostsFit}
+use Rattle.plan_tree.proofs.Kept.{enforcer_in_range}
+use Rattle.plan_tree.proofs.NodeNumbers.{enforcer_small}
 use Rattle.plan_tree.specs.declared.node.Node.{Node}
 use Rattle.plan_tree.specs.Nodes as kinds
 use Rattle.plan_tree.specs.Costs.{IsCostAmong}
@@ -33,6 +32,7 @@ use Rattle.plan_search.specs.KeptPlans.{IsAnswered, AreAnswered, kept_at, cost_a
 use Rattle.plan_search.specs.BestSoFar.{IsChosen, choice_over, cheaper_of, GoesOverPlace, GoesOverEnforcers}
 use Rattle.plan_search.specs.BestSoFar.{IsPlaceSettled, AreEnforcersSettled, enforcer_number}
 use Rattle.plan_search.proofs.EnforcerNumbers.{next_number_at, two_numbers}
+use Rattle.plan_search.proofs.RequestPlaces.{enforcer_before}
 use Rattle.plan_search.proofs.Answered.{none_case, some_case, cost_small}
 use Rattle.plan_search.proofs.Scanning.{IsOrder, IsStable, goes_on, goes_as, goes_to, goes_from, goes_not, goes_by_one}
 use Rattle.plan_search.proofs.Scanning.{enforcer_stable}
@@ -44,49 +44,19 @@ pub record IsBelow (q : Query) (group : KeyParts) (wanted : Request) (e : Enforc
   pub small : number_of (nodes.Enforcer e.node) < 2 ^ 56
 
 module _ (q : Query) (props : Props) (is_props : IsProps q props) (group : KeyParts) where
-  -- a sort, over the same distribution in no order
-  sort_below : (dist : Dist) (o : ℕ) (e : EnforcedBy) → Fits q group (request dist (suc o))
-      → e ≡ enforced (enforcing.Sort (suc o)) (request dist 0) → IsBelow q group (request dist (suc o)) e
-  sort_below dist o e fits is = subst (IsBelow q group (request dist (suc o))) (sym is) (record {
-    place = omega arith;
-    in_range = record { some = omega arith; few = omega (arith, fits.numbered, is_props.few_orders) };
-    small = omega (arith, fits.numbered, is_props.few_orders);
-  })
+  -- an enforcer that a number names has a number below those of expressions
+  named_small : (e : Enforcer) → kinds.EnforcerInRange e → number_of (nodes.Enforcer e) < 2 ^ 56
+  named_small e in_range = omega (arith, enforcer_small e in_range)
 
-  pub below_facts : (dist : Dist) (order : ℕ) (e : EnforcedBy) → Fits q group (request dist order)
-      → Among e (enforcers_by dist order) → IsBelow q group (request dist order) e
-  below_facts One zero e fits (inl is) = subst (IsBelow q group (request One 0)) (sym is) (record {
-    place = omega arith;
-    in_range = tt;
-    small = omega arith;
-  })
-  below_facts One zero e fits (inr none) = absurd none
-  below_facts Spread zero e fits none = absurd none
-  below_facts Copies zero e fits (inl is) = subst (IsBelow q group (request Copies 0)) (sym is) (record {
-    place = omega arith;
-    in_range = tt;
-    small = omega arith;
-  })
-  below_facts Copies zero e fits (inr none) = absurd none
-  below_facts (Hashed list) zero e fits (inl is) = subst (IsBelow q group (request (Hashed list) 0)) (sym is) (record {
-    place = omega arith;
-    in_range = omega (arith, fits.dist.numbered, is_props.few_lists);
-    small = omega (arith, fits.dist.numbered, is_props.few_lists);
-  })
-  below_facts (Hashed list) zero e fits (inr none) = absurd none
-  below_facts One (suc o) e fits (inl is) = sort_below One o e fits is
-  below_facts One (suc o) e fits (inr (inl is)) = subst (IsBelow q group (request One (suc o))) (sym is) (record {
-    place = omega arith;
-    in_range = record { some = omega arith; few = omega (arith, fits.numbered, is_props.few_orders) };
-    small = omega (arith, fits.numbered, is_props.few_orders);
-  })
-  below_facts One (suc o) e fits (inr (inr none)) = absurd none
-  below_facts Spread (suc o) e fits (inl is) = sort_below Spread o e fits is
-  below_facts Spread (suc o) e fits (inr none) = absurd none
-  below_facts Copies (suc o) e fits (inl is) = sort_below Copies o e fits is
-  below_facts Copies (suc o) e fits (inr none) = absurd none
-  below_facts (Hashed list) (suc o) e fits (inl is) = sort_below (Hashed list) o e fits is
-  below_facts (Hashed list) (suc o) e fits (inr none) = absurd none
+  pub below_facts : (wanted : Request) (e : EnforcedBy) → Fits q group wanted → Among e (enforcers_of wanted)
+      → IsBelow q group wanted e
+  below_facts wanted e fits among =
+      let in_range = enforcer_in_range q is_props.few_lists is_props.few_orders group wanted e fits among in
+      record {
+        place = enforcer_before group wanted e among;
+        in_range = in_range;
+        small = named_small e.node in_range;
+      }
 
 module _ (q : Query) (answers : KeptPlans) (group : KeyParts) (wanted : Request) where
   pub place_stable : (n : ℕ) → IsStable q (IsPlaceSettled q group wanted n)
@@ -124,7 +94,7 @@ module _ (q : Query) (answers : KeptPlans) (group : KeyParts) (wanted : Request)
       among = among_at (enforcers_of wanted) n e is_at
 
       pub facts : IsBelow q group wanted e
-      facts = below_facts q props is_props group wanted.dist wanted.order e fits among
+      facts = below_facts q props is_props group wanted e fits among
 
       below_fits : Fits q group e.below
       below_fits = asks group wanted e fits among

@@ -14,7 +14,6 @@ use Rattle.xform_rules.specs.Closure.{IsMember}
 use Rattle.request_props.specs.Numbered.{IsProps}
 use Rattle.request_props.specs.declared.props.Props.{Props}
 use Rattle.request_props.specs.declared.request.Dist.{Dist}
-use Rattle.request_props.specs.declared.request.Dist.TheVariants.{One, Spread, Copies, Hashed}
 use Rattle.request_props.specs.declared.request.Request.{Request}
 use Rattle.request_props.specs.Fitting.{Fits}
 use Rattle.plan_space.specs.Nodes.{Tree}
@@ -31,7 +30,7 @@ use Rattle.plan_search.specs.KeptPlans.{kept_at, IsKept, IsAnswerFor, IsAnswered
 use Rattle.plan_search.specs.Natives.{AreListedFor, HasMode}
 use Rattle.plan_search.specs.BestSoFar.{IsBestChoice, IsBestSoFar, GoesOverEnforcers, GoesOverAll, AreEnforcersSettled}
 use Rattle.plan_search.specs.BestSoFar.{AreSettledIn}
-use Rattle.plan_search.proofs.RequestPlaces.{request_small}
+use Rattle.plan_search.proofs.RequestPlaces.{request_small, dist_is_one}
 use Rattle.plan_search.proofs.Able.{serves_gives}
 use Rattle.plan_search.proofs.Standing.{stands_on, built_stands}
 use Rattle.plan_search.proofs.Scanning.{IsStable, goes_on, enforcer_stable}
@@ -118,24 +117,6 @@ differ x y not_same = elim (cases_order x y) [
 ]
 
 -- ---- places are one to one
-
-dist_is_one : (d e : Dist) → dist_place d ≡ dist_place e → d ≡ e
-dist_is_one One One is = refl
-dist_is_one One Spread is = absurd (omega (arith, is))
-dist_is_one One Copies is = absurd (omega (arith, is))
-dist_is_one One (Hashed list) is = absurd (omega (arith, is))
-dist_is_one Spread One is = absurd (omega (arith, is))
-dist_is_one Spread Spread is = refl
-dist_is_one Spread Copies is = absurd (omega (arith, is))
-dist_is_one Spread (Hashed list) is = absurd (omega (arith, is))
-dist_is_one Copies One is = absurd (omega (arith, is))
-dist_is_one Copies Spread is = absurd (omega (arith, is))
-dist_is_one Copies Copies is = refl
-dist_is_one Copies (Hashed list) is = absurd (omega (arith, is))
-dist_is_one (Hashed list) One is = absurd (omega (arith, is))
-dist_is_one (Hashed list) Spread is = absurd (omega (arith, is))
-dist_is_one (Hashed list) Copies is = absurd (omega (arith, is))
-dist_is_one (Hashed list) (Hashed other) is = let same : list ≡ other = omega (arith, is) in ap (λ l. Hashed l) same
 
 -- a place among those of a group is that of one request
 pub request_is_one : (r s : Request) → r.order < ORDERS → s.order < ORDERS → request_place r ≡ request_place s → r ≡ s
