@@ -16,7 +16,7 @@ use Rattle.goal_space.specs.Laws.{IsOfCandidate}
 use Rattle.goal_space.specs.OfMembers.{left_child, asked_child}
 use Rattle.goal_space.specs.declared.goals.GoalKind.{GoalKind}
 use Rattle.goal_space.specs.declared.goals.GoalKind.TheVariants.{Exp, ExpE, Xf, Imp, ImpE, Opt, OptE}
-use Rattle.goal_space.proofs.Levels.{FewerTables, child_below}
+use Rattle.goal_space.proofs.Levels.{ChildrenAreOfGroup, FewerTables, child_below}
 
 -- ---- requests
 
@@ -52,23 +52,23 @@ enforcer_less wanted e among = elim (enforcer_for wanted e among) [
 as_goal : (goal child other : GoalKind) → child ≡ other → rank_of other < rank_of goal → rank_of child < rank_of goal
 as_goal goal child other same less = subst (λ (g : GoalKind). rank_of g < rank_of goal) (sym same) less
 
-module _ (fewer : FewerTables) (Member : ExprParts → Type 0) (q : Query) where
+module _ (fewer : FewerTables) (by_group : ChildrenAreOfGroup) (Member : ExprParts → Type 0) (q : Query) where
   pub rank_falls : (goal child : GoalKind) → IsOfCandidate q goal → IsChildGoal Member q goal child
       → rank_of child < rank_of goal
   rank_falls (Exp group) child known (e, is_in, is) =
       as_goal (Exp group) child (ExpE e) is (omega (arith, ap level_of is_in.of_group))
   rank_falls (ExpE e) child known (inl (group, below, is)) =
-      as_goal (ExpE e) child (Exp group) is (omega (arith, child_below fewer q e group known below))
+      as_goal (ExpE e) child (Exp group) is (omega (arith, child_below fewer by_group q e group known below))
   rank_falls (ExpE e) child known (inr (rule, (tried, is))) =
       as_goal (ExpE e) child (Xf e rule) is (omega arith)
   rank_falls (Xf e rule) child known (group, associates, left, is) =
       as_goal (Xf e rule) child (Exp group) is
-      (omega (arith, child_below fewer q e group known (left_child (children_of e.operator) group left)))
+      (omega (arith, child_below fewer by_group q e group known (left_child (children_of e.operator) group left)))
   rank_falls (Imp group) child known (inl is) = as_goal (Imp group) child (Exp group) is (omega arith)
   rank_falls (Imp group) child known (inr (e, is_in, is)) =
       as_goal (Imp group) child (ImpE e) is (omega (arith, ap level_of is_in.of_group))
   rank_falls (ImpE e) child known (inl (group, below, is)) =
-      as_goal (ImpE e) child (Imp group) is (omega (arith, child_below fewer q e group known below))
+      as_goal (ImpE e) child (Imp group) is (omega (arith, child_below fewer by_group q e group known below))
   rank_falls (ImpE e) child known (inr (rule, (tried, is))) =
       as_goal (ImpE e) child (Xf e rule) is (omega arith)
   rank_falls (Opt group wanted) child known (inl is) = as_goal (Opt group wanted) child (Imp group) is (omega arith)
@@ -77,6 +77,6 @@ module _ (fewer : FewerTables) (Member : ExprParts → Type 0) (q : Query) where
   rank_falls (Opt group wanted) child known (inr (inr (e, can, is))) =
       as_goal (Opt group wanted) child (Opt group e.below) is (omega (arith, enforcer_less wanted e can.among))
   rank_falls (OptE e wanted) child known (group, below, asks, is) =
-      let lower = child_below fewer q (expr_of e) group known
+      let lower = child_below fewer by_group q (expr_of e) group known
       (asked_child (children_of (expr_of e).operator) _ group below asks.is_asked) in
       as_goal (OptE e wanted) child (Opt group below) is (omega (arith, lower, few_request below))

@@ -10,15 +10,12 @@ use Rattle.std.proofs.lemmas.Nat.Bits.{bit_at-lt}
 use Rattle.std.proofs.Math.Nat.{pow-le-pow_right}
 use Rattle.query_core.specs.Sets.{bit}
 use Rattle.query_core.specs.Keys.{has_own, group_of_table, top_of, input_of, IsGroup}
-use Rattle.query_core.specs.Expressions.{children_of, FallsInto, IsChild, IsCandidate, IsJoin, IsFiltered, IsAggregated}
-use Rattle.query_core.specs.Expressions.{IsPartial, HasShape}
+use Rattle.query_core.specs.Expressions.{children_of, FallsInto, IsCandidate, IsChild, IsChildrenOf}
 use Rattle.query_core.specs.declared.query.Query.{Query}
 use Rattle.query_core.specs.declared.words.KeyParts.{KeyParts}
 use Rattle.query_core.specs.declared.words.KeyParts.TheVariants as groups
-use Rattle.query_core.specs.declared.expressions.Logical.TheVariants as logical
-use Rattle.query_core.specs.declared.expressions.Physical.TheVariants as physical
-use Rattle.query_core.specs.declared.expressions.Operator.{Operator}
-use Rattle.query_core.specs.declared.expressions.Operator.TheVariants as operators
+use Rattle.query_core.specs.declared.expressions.Children.{Children}
+use Rattle.query_core.specs.declared.expressions.Children.TheVariants.{Zero, One, Two}
 use Rattle.query_core.specs.declared.expressions.ExprParts.{ExprParts}
 use Rattle.xform_rules.specs.Counts.{table_count}
 use Rattle.goal_space.specs.Ranks.{level_of}
@@ -105,24 +102,13 @@ abbrev pub FewerTables : Type 0
 FewerTables = (q : Query) (set a b : ℕ) → IsGroup q (groups.Join set) → FallsInto q set a b
     → (table_count a < table_count set) × (table_count b < table_count set)
 
+-- the children of an expression are groups on which its group's operators may stand
+abbrev pub ChildrenAreOfGroup : Type 0
+ChildrenAreOfGroup = (q : Query) (e : ExprParts) → IsCandidate q e → IsChildrenOf q e.group (children_of e.operator)
+
 -- a child's group is below the expression's
 abbrev IsBelow : KeyParts → KeyParts → Type 0
 IsBelow group child = level_of child < level_of group
-
-filtered_below : (group child : KeyParts) → IsFiltered group child → IsBelow group child
-filtered_below group child (t, is, child_is) =
-    subst (IsBelow group) (sym child_is) (subst (λ (g : KeyParts). IsBelow g (groups.Get t)) (sym is) (omega arith))
-
-aggregated_below : (q : Query) (group child : KeyParts) → IsAggregated q group child → IsBelow group child
-aggregated_below q group child (is, inl all) =
-    subst (IsBelow group) (sym all) (subst (λ (g : KeyParts). IsBelow g (input_of q)) (sym is)
-    (omega (arith, all_level q)))
-aggregated_below q group child (is, inr part) =
-    subst (IsBelow group) (sym part) (subst (λ (g : KeyParts). IsBelow g groups.Partial) (sym is) (omega arith))
-
-partial_below : (q : Query) (group child : KeyParts) → IsPartial q group child → IsBelow group child
-partial_below q group child (is, all) = subst (IsBelow group) (sym all)
-    (subst (λ (g : KeyParts). IsBelow g (input_of q)) (sym is) (all_level q))
 
 -- a set that a set of the query falls into is one of ten tables
 small_side : (q : Query) (set a b : ℕ) → set < 2 ^ length q.tables → FallsInto q set a b → (a < 1024) × (b < 1024)
@@ -130,57 +116,51 @@ small_side q set a b within falls =
     let few : 2 ^ length q.tables ≤ 2 ^ 10 = pow-le-pow_right (omega arith) q.tables_valid.few in
     (omega (arith, falls.whole, within, few, le_or_l a b), omega (arith, falls.whole, within, few, le_or_r a b))
 
-sides_below : FewerTables → (q : Query) (group left right : KeyParts) → IsGroup q group → IsJoin q group left right
-    → IsBelow group left × IsBelow group right
-sides_below fewer q group left right known (set, a, b, is, falls, left_is, right_is) =
-    let known_set : IsGroup q (groups.Join set) = subst (IsGroup q) is known in
-    let less = fewer q set a b known_set falls in
-    let small = small_side q set a b known_set.0 falls in
-    let below : (x : ℕ) → x < 1024 → table_count x < table_count set → IsBelow group (top_of q x)
-    = λ (x : ℕ) near_x less_x. subst (λ (g : KeyParts). IsBelow g (top_of q x)) (sym is)
-    (side_level q x (table_count set) near_x less_x) in (
-      subst (IsBelow group) (sym left_is) (below a small.0 less.0),
-      subst (IsBelow group) (sym right_is) (below b small.1 less.1),
-    )
+sides_below : FewerTables → (q : Query) (set a b : ℕ) → IsGroup q (groups.Join set) → FallsInto q set a b
+    → IsBelow (groups.Join set) (top_of q a) × IsBelow (groups.Join set) (top_of q b)
+sides_below fewer q set a b known falls =
+    let less = fewer q set a b known falls in
+    let small = small_side q set a b known.0 falls in
+    (side_level q a (table_count set) small.0 less.0, side_level q b (table_count set) small.1 less.1)
 
-of_two : (group left right child : KeyParts) → IsBelow group left × IsBelow group right → (child ≡ left)
-    ⊎ (child ≡ right) → IsBelow group child
-of_two group left right child (is_left, is_right) (inl same) = subst (IsBelow group) (sym same) is_left
-of_two group left right child (is_left, is_right) (inr same) = subst (IsBelow group) (sym same) is_right
+-- a child of these is below, where they are
+below_none : (group child : KeyParts) (c : Children) → c ≡ Zero → IsChild c child → IsBelow group child
+below_none group child c is under = absurd (subst (λ (x : Children). IsChild x child) is under)
 
-shape_below : FewerTables → (q : Query) (group child : KeyParts) (o : Operator) → IsGroup q group → HasShape q group o
-    → IsChild (children_of o) child → IsBelow group child
-shape_below fewer q group child (operators.Logical logical.Get) known shape is = absurd is
-shape_below fewer q group child (operators.Logical (logical.Select x)) known shape is =
-    subst (IsBelow group) (sym is) (filtered_below group x shape)
-shape_below fewer q group child (operators.Logical logical.NJoin) known shape is = absurd is
-shape_below fewer q group child (operators.Logical (logical.Join left right)) known shape is =
-    of_two group left right child (sides_below fewer q group left right known shape) is
-shape_below fewer q group child (operators.Logical (logical.Agg x)) known shape is =
-    subst (IsBelow group) (sym is) (aggregated_below q group x shape)
-shape_below fewer q group child (operators.Logical (logical.Partial x)) known shape is =
-    subst (IsBelow group) (sym is) (partial_below q group x shape)
-shape_below fewer q group child (operators.Physical physical.Scan) known shape is = absurd is
-shape_below fewer q group child (operators.Physical (physical.IndexScan index)) known shape is = absurd is
-shape_below fewer q group child (operators.Physical (physical.Filter x)) known shape is =
-    subst (IsBelow group) (sym is) (filtered_below group x shape.0)
-shape_below fewer q group child (operators.Physical (physical.IndexSeek index)) known shape is = absurd is
-shape_below fewer q group child (operators.Physical (physical.HashJoin left right)) known shape is =
-    of_two group left right child (sides_below fewer q group left right known shape.0) is
-shape_below fewer q group child (operators.Physical (physical.MergeJoin left right)) known shape is =
-    of_two group left right child (sides_below fewer q group left right known shape.0) is
-shape_below fewer q group child (operators.Physical (physical.LoopJoin left right)) known shape is =
-    of_two group left right child (sides_below fewer q group left right known shape.0) is
-shape_below fewer q group child (operators.Physical (physical.HashAgg x)) known shape is =
-    subst (IsBelow group) (sym is) (aggregated_below q group x shape.0)
-shape_below fewer q group child (operators.Physical (physical.StreamAgg x)) known shape is =
-    subst (IsBelow group) (sym is) (aggregated_below q group x shape.0)
-shape_below fewer q group child (operators.Physical (physical.PartialAgg x)) known shape is =
-    subst (IsBelow group) (sym is) (partial_below q group x shape.0)
+below_one : (group own child : KeyParts) (c : Children) → c ≡ One own → IsBelow group own → IsChild c child
+    → IsBelow group child
+below_one group own child c is lower under =
+    subst (IsBelow group) (sym (subst (λ (x : Children). IsChild x child) is under)) lower
+
+below_two : (group left right child : KeyParts) (c : Children) → c ≡ Two left right
+    → IsBelow group left × IsBelow group right → IsChild c child → IsBelow group child
+below_two group left right child c is (left_lower, right_lower) under =
+    elim (subst (λ (x : Children). IsChild x child) is under) [
+      | inl same ↦ subst (IsBelow group) (sym same) left_lower
+      | inr same ↦ subst (IsBelow group) (sym same) right_lower
+    ]
+
+children_below : FewerTables → (q : Query) (group child : KeyParts) (c : Children) → IsGroup q group
+    → IsChildrenOf q group c → IsChild c child → IsBelow group child
+children_below fewer q (groups.Get t) child c known is under = below_none (groups.Get t) child c is under
+children_below fewer q (groups.Filter t) child c known (inl none) under =
+    below_none (groups.Filter t) child c none under
+children_below fewer q (groups.Filter t) child c known (inr one) under =
+    below_one (groups.Filter t) (groups.Get t) child c one (omega arith) under
+children_below fewer q (groups.Join set) child c known (inl none) under =
+    below_none (groups.Join set) child c none under
+children_below fewer q (groups.Join set) child c known (inr (a, b, falls, two)) under =
+    below_two (groups.Join set) (top_of q a) (top_of q b) child c two (sides_below fewer q set a b known falls) under
+children_below fewer q groups.Partial child c known one under =
+    below_one groups.Partial (input_of q) child c one (all_level q) under
+children_below fewer q groups.Agg child c known (inl all) under =
+    below_one groups.Agg (input_of q) child c all (omega (arith, all_level q)) under
+children_below fewer q groups.Agg child c known (inr parts) under =
+    below_one groups.Agg groups.Partial child c parts (omega arith) under
 
 -- the groups on which a candidate stands are below its own
-pub child_below : FewerTables → (q : Query) (e : ExprParts) (child : KeyParts) → IsCandidate q e
+pub child_below : FewerTables → ChildrenAreOfGroup → (q : Query) (e : ExprParts) (child : KeyParts) → IsCandidate q e
     → IsChild (children_of e.operator) child
     → level_of child < level_of e.group
-child_below fewer q e child candidate is =
-    shape_below fewer q e.group child e.operator candidate.known candidate.shape is
+child_below fewer by_group q e child candidate is =
+    children_below fewer q e.group child (children_of e.operator) candidate.known (by_group q e candidate) is

@@ -17,6 +17,7 @@ pub fn ranks_fall()
     ensures listed { (q : Query) → ListedRanksFall q }
 {
     results_are_known();
+    candidates_are_known();
 }
 
 /// The goals of a query are about its members, and their requests fit.

@@ -4,7 +4,10 @@ use Rattle.goal_space.proofs.Falling.{rank_falls}
 use Rattle.goal_space.proofs.laws.ranks_fall.Goals as goal
 
 pub returns : goal.returns
-returns c = record {
-  closure = λ q. rank_falls c.results_are_known.ensures.fewer (IsMember q) q;
-  listed = λ q words. rank_falls c.results_are_known.ensures.fewer (IsListedIn q words) q;
-}
+returns c =
+    let fewer = c.results_are_known.ensures.fewer in
+    let by_group = c.candidates_are_known.ensures.by_group in
+    record {
+      closure = λ q. rank_falls fewer by_group (IsMember q) q;
+      listed = λ q words. rank_falls fewer by_group (IsListedIn q words) q;
+    }
