@@ -1,18 +1,20 @@
 -- Which rules may be off together, and the set of their bits.
 use Rattle.std.proofs.Common.{◌≡◌, ℕ, ◌+◌, ◌^◌, ◌%◌, ◌<◌, ◌&&◌, ◌↔◌, Bool, true, false, IsTrue, List, [], ◌∷◌, ◌++◌}
-use Rattle.std.proofs.Common.{length, nat_le, Some, refl, sym, ap, ◌∙◌, subst, arith, inl, inr}
+use Rattle.std.proofs.Common.{◌≤◌, ◌-◌, ◌*◌, ◌/◌, ◌||◌, zero, suc, not, length, nat_le, Some, refl, sym, ap, ◌∙◌, subst, arith, inl, inr}
 use Rattle.std.proofs.lemmas.List.Sums.{sum_by-append}
 use Rattle.std.proofs.Math.Bool.{and-false}
-use Rattle.std.proofs.lemmas.Bool.{cases_eq, false≢true}
+use Rattle.std.proofs.lemmas.Bool.{cases_eq, false≢true, leb-true}
 use Rattle.std.proofs.lemmas.Bool.Decides.{nat_tests}
 use Rattle.std.proofs.lemmas.List.{length-append}
 use Rattle.std.proofs.lemmas.List.Folds.{list_all-append}
-use Rattle.std.proofs.lemmas.Nat.Bits.{bit_at-lt}
+use native.Mathlib.Nat.{mul_assoc}
+use Rattle.std.proofs.lemmas.Nat.{pow-add}
+use Rattle.std.proofs.lemmas.Nat.Bits.{bit_at-lt, bit_at_lowest, bit_at-suc}
 use Rattle.std.specs.Int.{bit_at}
 use Rattle.query_core.specs.Sets.{bit, Has, Adds}
 use Rattle.xform_rules.specs.Rules.{can_be_off, rule_number}
 use Rattle.xform_rules.specs.declared.rules.Rule.{Rule}
-use Rattle.xform_rules.specs.declared.rules.Rule.TheVariants as rules
+use Rattle.xform_rules.proofs.EveryRule.{every_rule}
 use Rattle.command_line.specs.Rules.{may_be_off, off_set}
 use Rattle.command_line.specs.Options.{MayBeOff}
 use Rattle.command_line.specs.Reading.{set_where_off}
@@ -59,30 +61,51 @@ set_of_rules before rule new is =
     let some : nat_le 1 (length (before ++ rule ∷ [])) ≡ true = rw length-append (grind (arith, nat_tests)) in
     rw (some, is.can, is.are_bits.once) (ap Some is.sum_of)
 
--- a bit that isn't set yet has room among those from 2 to 14
-numbers_fit : (rule : Rule) (set : ℕ) → set < 32768 → set % 4 ≡ 0 → can_be_off rule ≡ true
-    → bit set (rule_number rule) ≡ 0 → (set + 2 ^ rule_number rule < 32768) × ((set + 2 ^ rule_number rule) % 4 ≡ 0)
+-- a bit that isn't set has room below a power of two that is greater
+bit_room : (n set half : ℕ) → bit_at set n ≡ 0 → set < 2 ^ n * (2 * half) → set + 2 ^ n < 2 ^ n * (2 * half)
+bit_room zero set half none small =
+    let even : set % 2 ≡ 0 = sym (bit_at_lowest set) ∙ none in
+    let below : set < 2 * half = omega (arith, small) in
+    omega (arith, even, below)
+bit_room (suc n) set half none small =
+    let whole = 2 ^ n * (2 * half) in
+    let next : suc n ≡ 1 + n = omega arith in
+    let twice : 2 ^ suc n ≡ 2 * 2 ^ n = ap (λ (x : ℕ). 2 ^ x) next ∙ pow-add 2 1 n in
+    let of_both : 2 ^ suc n * (2 * half) ≡ 2 * whole =
+    ap (λ (x : ℕ). x * (2 * half)) twice ∙ mul_assoc 2 (2 ^ n) (2 * half) in
+    let inner : set / 2 + 2 ^ n < whole =
+    bit_room n (set / 2) half (sym (bit_at-suc set n) ∙ none) (omega (arith, small, of_both)) in
+    omega (arith, inner, of_both, twice)
+
+-- so has a bit among those from 2 to 14
+numbers_fit : (n set : ℕ) → set < 32768 → set % 4 ≡ 0 → 2 ≤ n → n ≤ 14 → bit set n ≡ 0
+    → (set + 2 ^ n < 32768) × ((set + 2 ^ n) % 4 ≡ 0)
 unfolding bit
-numbers_fit rules.ExpandNAry set small whole can none = absurd (false≢true can)
-numbers_fit rules.JoinCommute set small whole can none = (omega (arith, small, none), omega (arith, whole))
-numbers_fit rules.JoinAssociate set small whole can none = (omega (arith, small, none), omega (arith, whole))
-numbers_fit rules.SplitAgg set small whole can none = (omega (arith, small, none), omega (arith, whole))
-numbers_fit rules.GetToScan set small whole can none = (omega (arith, small, none), omega (arith, whole))
-numbers_fit rules.GetToIndexScan set small whole can none = (omega (arith, small, none), omega (arith, whole))
-numbers_fit rules.SelectToFilter set small whole can none = (omega (arith, small, none), omega (arith, whole))
-numbers_fit rules.SelectToIndexSeek set small whole can none = (omega (arith, small, none), omega (arith, whole))
-numbers_fit rules.JoinToHash set small whole can none = (omega (arith, small, none), omega (arith, whole))
-numbers_fit rules.JoinToMerge set small whole can none = (omega (arith, small, none), omega (arith, whole))
-numbers_fit rules.JoinToLoop set small whole can none = (omega (arith, small, none), omega (arith, whole))
-numbers_fit rules.AggToHash set small whole can none = (omega (arith, small, none), omega (arith, whole))
-numbers_fit rules.AggToStream set small whole can none = (omega (arith, small, none), omega (arith, whole))
-numbers_fit rules.PartialToHash set small whole can none = (omega (arith, small, none), omega (arith, whole))
+numbers_fit n set small whole low high none =
+    let together : n + (1 + (14 - n)) ≡ 15 = omega (arith, high) in
+    let bound : 2 ^ n * (2 * 2 ^ (14 - n)) ≡ 32768 =
+    ap (λ (x : ℕ). 2 ^ n * x) (sym (pow-add 2 1 (14 - n))) ∙ sym (pow-add 2 n (1 + (14 - n)))
+    ∙ ap (λ (x : ℕ). 2 ^ x) together in
+    let fits = bit_room n set (2 ^ (14 - n)) none (omega (arith, small, bound)) in
+    let parts : n ≡ 2 + (n - 2) = omega (arith, low) in
+    let fourth : 2 ^ n ≡ 4 * 2 ^ (n - 2) = ap (λ (x : ℕ). 2 ^ x) parts ∙ pow-add 2 2 (n - 2) in
+    (omega (arith, fits, bound), omega (arith, fourth, whole))
+
+-- a rule that can be off has such a number
+off_number : (rule : Rule) → can_be_off rule ≡ true → (2 ≤ rule_number rule) × (rule_number rule ≤ 14)
+off_number rule can =
+    let low : (not (can_be_off rule) || nat_le 2 (rule_number rule)) ≡ true =
+    every_rule (λ r. not (can_be_off r) || nat_le 2 (rule_number r)) refl rule in (
+      leb-true 2 (rule_number rule) (subst (λ b. (not b || nat_le 2 (rule_number rule)) ≡ true) can low),
+      leb-true (rule_number rule) 14 (every_rule (λ r. nat_le (rule_number r) 14) refl rule),
+    )
 
 -- a rule that can be off may be off beside others
 pub has_room : (rule : Rule) (set : ℕ) → MayBeOff set → can_be_off rule ≡ true → bit set (rule_number rule) ≡ 0
     → MayBeOff (set + 2 ^ rule_number rule)
 has_room rule set is can none =
-    let fit = numbers_fit rule set is.below is.expansion_on can none in
+    let (low, high) = off_number rule can in
+    let fit = numbers_fit (rule_number rule) set is.below is.expansion_on low high none in
     record { below = fit.0; expansion_on = fit.1 }
 
 -- a bit that isn't 1 is 0

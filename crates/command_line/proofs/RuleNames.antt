@@ -5,25 +5,12 @@ use Rattle.std.specs.List.{find}
 use Rattle.std.proofs.lemmas.Slice.Eq.{bytes_eq-Decides}
 use Rattle.xform_rules.specs.Rules.{all_rules, rule_name}
 use Rattle.xform_rules.specs.declared.rules.Rule.{Rule}
-use Rattle.xform_rules.specs.declared.rules.Rule.TheVariants as rules
+use Rattle.xform_rules.proofs.Names.{first_named}
 use Rattle.command_line.specs.Reading.{rule_of_name}
 
 -- a rule's name is the name of that rule
 pub rule_of_own_name : (rule : Rule) → rule_of_name (rule_name rule) ≡ Some rule
-rule_of_own_name rules.ExpandNAry = refl
-rule_of_own_name rules.JoinCommute = refl
-rule_of_own_name rules.JoinAssociate = refl
-rule_of_own_name rules.SplitAgg = refl
-rule_of_own_name rules.GetToScan = refl
-rule_of_own_name rules.GetToIndexScan = refl
-rule_of_own_name rules.SelectToFilter = refl
-rule_of_own_name rules.SelectToIndexSeek = refl
-rule_of_own_name rules.JoinToHash = refl
-rule_of_own_name rules.JoinToMerge = refl
-rule_of_own_name rules.JoinToLoop = refl
-rule_of_own_name rules.AggToHash = refl
-rule_of_own_name rules.AggToStream = refl
-rule_of_own_name rules.PartialToHash = refl
+rule_of_own_name = first_named
 
 -- what is found passes the test
 pub found_passes : {X : Type 0} (test : X → Bool) (xs : List X) (x : X) → find test xs ≡ Some x → test x ≡ true

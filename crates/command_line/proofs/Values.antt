@@ -13,7 +13,7 @@ use Rattle.query_core.specs.declared.options.RootDist.{RootDist}
 use Rattle.query_core.specs.declared.options.RootDist.TheVariants.{One, Spread}
 use Rattle.xform_rules.specs.Rules.{rule_name}
 use Rattle.xform_rules.specs.declared.rules.Rule.{Rule}
-use Rattle.xform_rules.specs.declared.rules.Rule.TheVariants as rules
+use Rattle.xform_rules.proofs.EveryRule.{every_rule}
 use Rattle.command_line.specs.Rules.{may_be_off, off_set, rules_word}
 use Rattle.command_line.specs.Options.{root_word, AreRules}
 use Rattle.command_line.specs.Reading.{root_of, rule_of_name, all_of, set_where_off, off_of}
@@ -47,20 +47,7 @@ root_spelled value dist is = of_word (bytes_eq value (codes "one")) (bytes_eq va
 
 -- a rule's name has letters
 letters : (rule : Rule) → list_all (nat_le 65) (rule_name rule) ≡ true
-letters rules.ExpandNAry = refl
-letters rules.JoinCommute = refl
-letters rules.JoinAssociate = refl
-letters rules.SplitAgg = refl
-letters rules.GetToScan = refl
-letters rules.GetToIndexScan = refl
-letters rules.SelectToFilter = refl
-letters rules.SelectToIndexSeek = refl
-letters rules.JoinToHash = refl
-letters rules.JoinToMerge = refl
-letters rules.JoinToLoop = refl
-letters rules.AggToHash = refl
-letters rules.AggToStream = refl
-letters rules.PartialToHash = refl
+letters = every_rule (λ rule. list_all (nat_le 65) (rule_name rule)) refl
 
 -- and no other byte
 name_lacks : (byte : ℕ) → byte < 65 → (rule : Rule) → Lacks byte (rule_name rule)

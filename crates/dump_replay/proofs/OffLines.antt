@@ -1,12 +1,12 @@
 -- The line of the rules that are off.
 use Rattle.std.proofs.Common.{◌≡◌, ◌≢◌, ℕ, ◌+◌, ◌*◌, ◌<◌, ◌≤◌, Bool, false, cond, get_or, subst, List, [], ◌∷◌, ◌++◌, map, codes, Some, refl, sym, ap, ◌∙◌}
-use Rattle.std.proofs.Common.{append_assoc, filter, nat_eq, nat_lt, drop, take, length, true, arith}
+use Rattle.std.proofs.Common.{append_assoc, filter, nat_eq, nat_le, nat_lt, drop, take, length, true, arith}
 use Rattle.std.specs.Str.{IsAscii, IsUtf8}
 use Rattle.std.proofs.lemmas.List.{append-nil, length-append, map_push}
 use Rattle.std.proofs.lemmas.List.Elements.{filter_more}
 use Rattle.std.proofs.lemmas.List.Sums.{count_by-le-length, length-filter}
 use Rattle.std.proofs.lemmas.Bool.Decides.{nat_tests}
-use Rattle.std.proofs.lemmas.Bool.{and_parts, ltb-true}
+use Rattle.std.proofs.lemmas.Bool.{and_parts, leb-true, ltb-true}
 use Rattle.std.proofs.lemmas.Str.{IsAscii-append, IsUtf8-from_ascii}
 use Rattle.std.proofs.lemmas.Str.Ascii.{IsAscii-cons, IsAscii-nil}
 use Rattle.std.specs.List.{join_with_byte, list_all}
@@ -14,10 +14,11 @@ use Rattle.query_core.specs.Sets.{bit}
 use Rattle.xform_rules.specs.Rules.{all_rules, rule_name, rule_number}
 use Rattle.xform_rules.specs.declared.rules.Rule.{Rule}
 use Rattle.xform_rules.specs.declared.rules.Rule.TheVariants as rules
+use Rattle.xform_rules.proofs.EveryRule.{every_rule}
 use Rattle.command_line.specs.Options.{MayBeOff}
 use Rattle.command_line.specs.Reading.{off_of}
 use Rattle.command_line.specs.Rules.{rules_word}
-use Rattle.dump_replay.specs.Lines.{off_line, rules_in, rules_line}
+use Rattle.dump_replay.specs.Lines.{is_one_line, off_line, rules_in, rules_line}
 use Rattle.dump_replay.proofs.Cuts.{IsOneLine, both_one_line}
 use Rattle.dump_replay.proofs.Rules.{set_read, set_of_none}
 
@@ -120,20 +121,7 @@ none_spelled set = record {
 -- ---- one line
 
 name_one_line : (rule : Rule) → IsOneLine (rule_name rule)
-name_one_line rules.ExpandNAry = refl
-name_one_line rules.JoinCommute = refl
-name_one_line rules.JoinAssociate = refl
-name_one_line rules.SplitAgg = refl
-name_one_line rules.GetToScan = refl
-name_one_line rules.GetToIndexScan = refl
-name_one_line rules.SelectToFilter = refl
-name_one_line rules.SelectToIndexSeek = refl
-name_one_line rules.JoinToHash = refl
-name_one_line rules.JoinToMerge = refl
-name_one_line rules.JoinToLoop = refl
-name_one_line rules.AggToHash = refl
-name_one_line rules.AggToStream = refl
-name_one_line rules.PartialToHash = refl
+name_one_line = every_rule (λ rule. is_one_line (rule_name rule)) refl
 
 word_one_line : (first : Rule) (others : List Rule) → IsOneLine (rules_word (first ∷ others))
 word_one_line first [] = name_one_line first
@@ -150,20 +138,8 @@ off_one_line set = rules_one_line (rules_in set)
 -- ---- what the line says
 
 name_ascii : (rule : Rule) → IsAscii (rule_name rule)
-name_ascii rules.ExpandNAry = ascii_from (codes "ExpandNAry") refl
-name_ascii rules.JoinCommute = ascii_from (codes "JoinCommute") refl
-name_ascii rules.JoinAssociate = ascii_from (codes "JoinAssociate") refl
-name_ascii rules.SplitAgg = ascii_from (codes "SplitAgg") refl
-name_ascii rules.GetToScan = ascii_from (codes "GetToScan") refl
-name_ascii rules.GetToIndexScan = ascii_from (codes "GetToIndexScan") refl
-name_ascii rules.SelectToFilter = ascii_from (codes "SelectToFilter") refl
-name_ascii rules.SelectToIndexSeek = ascii_from (codes "SelectToIndexSeek") refl
-name_ascii rules.JoinToHash = ascii_from (codes "JoinToHash") refl
-name_ascii rules.JoinToMerge = ascii_from (codes "JoinToMerge") refl
-name_ascii rules.JoinToLoop = ascii_from (codes "JoinToLoop") refl
-name_ascii rules.AggToHash = ascii_from (codes "AggToHash") refl
-name_ascii rules.AggToStream = ascii_from (codes "AggToStream") refl
-name_ascii rules.PartialToHash = ascii_from (codes "PartialToHash") refl
+name_ascii rule =
+    ascii_from (rule_name rule) (every_rule (λ r. list_all (λ byte. nat_lt byte 128) (rule_name r)) refl rule)
 
 word_ascii : (first : Rule) (others : List Rule) → IsAscii (rules_word (first ∷ others))
 word_ascii first [] = name_ascii first
@@ -198,20 +174,8 @@ one_set line a b (some word is utf8 read) (some again other utf8_too read_too) =
 -- ---- how long the line is
 
 name_short : (rule : Rule) → length (rule_name rule) ≤ 17
-name_short rules.ExpandNAry = omega arith
-name_short rules.JoinCommute = omega arith
-name_short rules.JoinAssociate = omega arith
-name_short rules.SplitAgg = omega arith
-name_short rules.GetToScan = omega arith
-name_short rules.GetToIndexScan = omega arith
-name_short rules.SelectToFilter = omega arith
-name_short rules.SelectToIndexSeek = omega arith
-name_short rules.JoinToHash = omega arith
-name_short rules.JoinToMerge = omega arith
-name_short rules.JoinToLoop = omega arith
-name_short rules.AggToHash = omega arith
-name_short rules.AggToStream = omega arith
-name_short rules.PartialToHash = omega arith
+name_short rule =
+    leb-true (length (rule_name rule)) 17 (every_rule (λ r. nat_le (length (rule_name r)) 17) refl rule)
 
 word_short : (some : List Rule) → length (rules_word some) ≤ 18 * length some
 word_short [] = omega arith

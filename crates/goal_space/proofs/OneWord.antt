@@ -11,12 +11,12 @@ use Rattle.query_core.specs.declared.words.KeyParts.{KeyParts}
 use Rattle.query_core.specs.declared.words.GoalParts.{GoalParts}
 use Rattle.query_core.specs.declared.expressions.ExprParts.{ExprParts}
 use Rattle.query_core.proofs.ExpressionLemmas.{expr_of_one}
-use Rattle.xform_rules.specs.Rules.{rule_number}
+use Rattle.xform_rules.specs.Rules.{rule_number, RulesAreKnown}
 use Rattle.request_props.specs.Requests.{code_of}
 use Rattle.goal_space.specs.Words.{key_of, expr_word, parts_of, goal_word, IsInRange}
 use Rattle.goal_space.specs.declared.goals.GoalKind.{GoalKind}
 use Rattle.goal_space.specs.declared.goals.GoalKind.TheVariants.{Exp, ExpE, Xf, Imp, ImpE, Opt, OptE}
-use Rattle.goal_space.proofs.GoalNumbers.{rule_one, rule_some, rule_few, code_small, request_one}
+use Rattle.goal_space.proofs.GoalNumbers.{code_small, request_one}
 
 module _ (
     one_expr : (e f : ExprParts) → IsPacked e → IsPacked f → word_of e ≡ word_of f → e ≡ f
@@ -26,12 +26,14 @@ module _ (
     small_expr : (e : ExprParts) → IsPacked e → FitsExpr (word_of e)
     ) (
     small_group : (g : KeyParts) → keys.IsInRange g → key_number g < KEYS
+    ) (
+    rules : RulesAreKnown
     ) where
   -- the parts of a goal fit
   pub goal_fits : (k : GoalKind) → IsInRange k → FitsGoal (parts_of k)
   goal_fits (Exp group) known = omega (arith, small_group group known)
   goal_fits (ExpE e) known = small_expr e known
-  goal_fits (Xf e rule) known = (small_expr e known, rule_some rule, rule_few rule)
+  goal_fits (Xf e rule) known = (small_expr e known, rules.some rule, omega (arith, rules.few rule))
   goal_fits (Imp group) known = omega (arith, small_group group known)
   goal_fits (ImpE e) known = small_expr e known
   goal_fits (Opt group wanted) known = (omega (arith, small_group group known.0), code_small wanted known.1)
@@ -55,7 +57,7 @@ module _ (
       let words_same : expr_word e ≡ expr_word f = cc in
       let numbers_same : rule_number rule ≡ rule_number more = cc in
       let e_is = expr_same e f known other words_same in
-      let rule_is = rule_one rule more numbers_same in
+      let rule_is = rules.number_one rule more numbers_same in
       cc
   parts_one (Imp g) (Imp h) known other same =
       let keys_same : key_of g ≡ key_of h = cc in

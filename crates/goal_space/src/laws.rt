@@ -38,7 +38,9 @@ pub fn goals_are_known()
 pub fn goals_ask_for_members()
     ensures only { (q : Query) → AskedAreMembers q }
     ensures all { (q : Query) → MembersAreAsked q }
-{}
+{
+    results_are_known();
+}
 
 /// What is told of each goal of a query: the cost and the root of the least plan among which it chooses, all plans of its
 /// group for its request or those with its expression at the root, and none exactly where there is no such plan.

@@ -12,7 +12,7 @@ use query_core::{
     Expr, Goal, GoalParts, Key, expressions_are_one, goals_are_one, groups_are_known,
 };
 use request_props::{code, request_of};
-use xform_rules::rule_of;
+use xform_rules::{rule_of, rules_are_known};
 
 impl GoalKind {
     /// The word of the goal.
@@ -63,6 +63,7 @@ pub fn goal_kinds_are_one()
 {
     expressions_are_one();
     groups_are_known();
+    rules_are_known();
     goals_are_one();
 }
 

@@ -5,11 +5,10 @@ use Rattle.std.specs.Prelude.{is_some}
 use Rattle.std.proofs.lemmas.Bool.{false≢true}
 use Rattle.std.specs.Option.{option_map}
 use Rattle.query_core.specs.declared.expressions.Logical.{Logical}
-use Rattle.query_core.specs.declared.expressions.Physical.{Physical}
 use Rattle.query_core.specs.declared.expressions.Operator.{Operator}
 use Rattle.query_core.specs.declared.expressions.Operator.TheVariants as operators
-use Rattle.xform_rules.specs.Forms.{Finds, IsLogical, IsPhysical}
-use Rattle.xform_rules.proofs.Operators.{finds_logical, finds_physical}
+use Rattle.xform_rules.specs.Forms.{Finds, IsLogical}
+use Rattle.xform_rules.proofs.Operators.{finds_logical}
 
 -- what is found by one word is found by another that says the same
 pub finds_as : {A : Type 0} (P Q : A → Type 0) → ((x : A) → P x → Q x) → ((x : A) → Q x → P x) → (found : Option A)

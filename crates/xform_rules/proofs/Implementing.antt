@@ -1,10 +1,10 @@
 -- A physical member is made by its rule of its logical expression, and by nothing else.
-use Rattle.std.proofs.Common.{◌≡◌, ℕ, arith, refl, ap, sym, subst, ◌∙◌, ◌⊎◌, inl, inr, ◌↔◌, None, Some}
+use Rattle.std.proofs.Common.{◌≡◌, ℕ, false, Option, arith, refl, ap, sym, subst, ◌∙◌, ◌⊎◌, inl, inr, ◌↔◌, None, Some}
 use Rattle.std.proofs.lemmas.Bool.{false≢true}
 use Rattle.query_core.specs.Keys.{root_of}
 use Rattle.query_core.specs.Sets.{bit}
 use Rattle.query_core.specs.Expressions.{access, children_by, implements, logical_fields, physical_children, origin_of}
-use Rattle.query_core.specs.Expressions.{is_logical, IsChild, IsCandidate}
+use Rattle.query_core.specs.Expressions.{children_of, is_logical, IsChild, IsCandidate}
 use Rattle.query_core.specs.declared.query.Query.{Query}
 use Rattle.query_core.specs.declared.words.KeyParts.{KeyParts}
 use Rattle.query_core.specs.declared.expressions.Logical.{Logical}
@@ -12,6 +12,7 @@ use Rattle.query_core.specs.declared.expressions.Physical.{Physical}
 use Rattle.query_core.specs.declared.expressions.Access.{Access}
 use Rattle.query_core.specs.declared.expressions.Access.TheVariants.{Direct, Index}
 use Rattle.query_core.specs.declared.expressions.Children.{Children}
+use Rattle.query_core.specs.declared.expressions.Operator.{Operator}
 use Rattle.query_core.specs.declared.expressions.Operator.TheVariants as operators
 use Rattle.query_core.specs.declared.expressions.ExprParts.{ExprParts}
 use Rattle.xform_rules.specs.declared.rules.Rule.{Rule}
@@ -19,7 +20,7 @@ use Rattle.xform_rules.specs.declared.rules.Rule.TheVariants as rules
 use Rattle.xform_rules.specs.declared.rules.Work.{Work}
 use Rattle.xform_rules.specs.declared.rules.Work.TheVariants as works
 use Rattle.xform_rules.specs.declared.rules.Exploration.TheVariants.{Expansion, Commutation, Association, Split}
-use Rattle.xform_rules.specs.Forms.{logical_in, physical_in}
+use Rattle.xform_rules.specs.Forms.{IsLogical, logical_in, physical_in}
 use Rattle.xform_rules.specs.ExpandNAry.{Expands}
 use Rattle.xform_rules.specs.JoinCommute.{Commutes}
 use Rattle.xform_rules.specs.JoinAssociate.{Associates}
@@ -89,6 +90,24 @@ implemented_child q g from rule n to gives c is =
     subst (λ (x : Rule × Logical). IsChild (logical_fields x.1).children c) (implemented q g from rule n to gives)
     (own_child (access to) (logical_fields (implements g to)).children c
     (subst (λ (x : Children). IsChild x c) (children_taken g to) is))
+
+-- what a rule gives that isn't logical stands on groups on which the expression stands
+given_children : (q : Query) (rule : Rule) (group : KeyParts) (bound : Option ExprParts) (n : ℕ) (o to : Operator)
+    → IsLogical (GivesWith q rule group bound n to) o → is_logical to ≡ false → (c : KeyParts)
+    → IsChild (children_of to) c → IsChild (children_of o) c
+given_children q rule group None n (operators.Logical from) (operators.Physical to) gives other c is =
+    implemented_child q group from rule n to gives c is
+given_children q rule group (Some bound) n (operators.Logical from) (operators.Physical to) gives other c is =
+    absurd gives.2
+given_children q rule group bound n (operators.Logical from) (operators.Logical to) gives other c is =
+    absurd (false≢true (sym other))
+given_children q rule group bound n (operators.Physical o) to never other c is = absurd never
+
+pub result_children : (q : Query) (rule : Rule) (e : ExprParts) (bound : Option ExprParts) (n : ℕ) (x : ExprParts)
+    → HasResult q rule e bound n x → is_logical x.operator ≡ false → (c : KeyParts)
+    → IsChild (children_of x.operator) c → IsChild (children_of e.operator) c
+result_children q rule e bound n x has =
+    given_children q rule e.group bound n e.operator x.operator has.gives
 
 -- the logical expression is one that the group can hold
 pub logical_candidate : (q : Query) (g : KeyParts) (to : Physical) → IsCandidate q (physical_in g to)

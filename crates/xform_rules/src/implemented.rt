@@ -1,11 +1,16 @@
 //! The rules that implement: which operator each makes of a logical one, and when. No call here takes memory.
 #![tactic(auto)]
 
-ghost use Rattle.std.specs.Prelude.{ℕ, ◌≡◌, ◌<◌, IsTrue, ◌↔◌, IfSome, Some, length};
+ghost use Rattle.std.specs.Prelude.{ℕ, ◌≡◌, ◌<◌, IsTrue, ◌↔◌, IfSome, Some, false, length};
+ghost use Rattle.std.specs.List.{Contains};
+ghost use Rattle.query_core.specs.declared.query.Query.{Query as AnyQuery};
 ghost use Rattle.query_core.specs.declared.words.KeyParts.{KeyParts as AnyGroup};
 ghost use Rattle.query_core.specs.declared.expressions.Physical.{Physical as AnyPhysical};
 ghost use Rattle.query_core.specs.Expressions.{implements as implemented_of};
+ghost use Rattle.xform_rules.specs.declared.rules.Rule.{Rule as AnyRule};
 ghost use Rattle.xform_rules.specs.Forms.{Finds};
+ghost use Rattle.xform_rules.specs.Rules.{explores};
+ghost use Rattle.xform_rules.specs.Results.{IsFor};
 ghost use Rattle.xform_rules.specs.Implemented.{HasCrossing, HasOwnIndex, HasUsable, IsAllowed, IsEquated, IsFirst};
 ghost use Rattle.xform_rules.specs.Implemented.{rule_of, index_of, IsMadeBy, Makes};
 
@@ -28,6 +33,29 @@ pub fn giving_rule(to: Physical) -> Rule
         Physical::HashAgg(_) => Rule::AggToHash,
         Physical::StreamAgg(_) => Rule::AggToStream,
         Physical::PartialAgg(_) => Rule::PartialToHash,
+    }
+}
+
+/// The rules that implement what is wanted, in the order of their numbers. No other rule that implements is for it.
+pub fn implementing_rules(from: Logical) -> &'static [Rule]
+    ensures every { (q : AnyQuery) (rule : AnyRule) (group : AnyGroup) →
+        explores rule ≡ false → IsFor q rule group from → Contains result.now rule }
+{
+    makers_of(from)
+}
+
+/// The rules of the operators that implement it.
+fn makers_of(from: Logical) -> &'static [Rule]
+    ensures every { (group : AnyGroup) (to : AnyPhysical) → implemented_of group to ≡ from →
+        Contains result.now (rule_of to) }
+{
+    match from {
+        Logical::Get => &[Rule::GetToScan, Rule::GetToIndexScan],
+        Logical::Select(_) => &[Rule::SelectToFilter, Rule::SelectToIndexSeek],
+        Logical::NJoin => &[],
+        Logical::Join(_, _) => &[Rule::JoinToHash, Rule::JoinToMerge, Rule::JoinToLoop],
+        Logical::Agg(_) => &[Rule::AggToHash, Rule::AggToStream],
+        Logical::Partial(_) => &[Rule::PartialToHash],
     }
 }
 

@@ -1,12 +1,12 @@
 //! What the layers above know of rules and their results.
 #![tactic(auto)]
 
-ghost use Rattle.std.specs.Prelude.{ℕ, ◌≡◌, ◌<◌, IfSome, IsTrue, Option, Some, is_some};
+ghost use Rattle.std.specs.Prelude.{ℕ, ◌≡◌, ◌<◌, IfSome, IsTrue, Option, Some, false, is_some};
 ghost use Rattle.query_core.specs.declared.query.Query.{Query};
 ghost use Rattle.query_core.specs.declared.expressions.ExprParts.{ExprParts};
 ghost use Rattle.query_core.specs.declared.words.KeyParts.{KeyParts};
 ghost use Rattle.query_core.specs.Keys.{IsGroup};
-ghost use Rattle.query_core.specs.Expressions.{FallsInto, IsCandidate, is_logical};
+ghost use Rattle.query_core.specs.Expressions.{children_of, is_logical, FallsInto, IsCandidate, IsChild};
 ghost use Rattle.xform_rules.specs.declared.rules.Rule.{Rule};
 ghost use Rattle.xform_rules.specs.Counts.{table_count};
 ghost use Rattle.xform_rules.specs.Forms.{IsLeftSide};
@@ -49,6 +49,12 @@ pub fn results_are_known()
     ensures explored { (q : Query) (rule : Rule) (e : ExprParts) (bound : Option ExprParts)
         (n : ℕ) (x : ExprParts) → HasResult q rule e bound n x →
         is_logical x.operator ≡ explores rule }
+
+    // What isn't logical stands on groups on which the expression stands.
+    ensures children { (q : Query) (rule : Rule) (e : ExprParts) (bound : Option ExprParts)
+        (n : ℕ) (x : ExprParts) → HasResult q rule e bound n x →
+        is_logical x.operator ≡ false → (group : KeyParts) →
+        IsChild (children_of x.operator) group → IsChild (children_of e.operator) group }
 
     // A bound member is a logical one of the left child's group.
     ensures binds { (q : Query) (rule : Rule) (e : ExprParts) (bound : Option ExprParts)

@@ -1,7 +1,12 @@
 //! When a rule applies to an expression, and its results. No call here takes memory.
 #![tactic(auto)]
 
-ghost use Rattle.std.specs.Prelude.{ℕ, Option, ◌≡◌, ◌<◌, IsTrue, ◌↔◌, IfSome, None};
+ghost use Rattle.std.specs.Prelude.{ℕ, Option, ◌≡◌, ◌<◌, IsTrue, ◌↔◌, IfSome, None, true};
+ghost use Rattle.std.specs.List.{Contains};
+ghost use Rattle.query_core.specs.declared.query.Query.{Query as AnyQuery};
+ghost use Rattle.query_core.specs.declared.words.KeyParts.{KeyParts as AnyGroup};
+ghost use Rattle.xform_rules.specs.declared.rules.Rule.{Rule as AnyRule};
+ghost use Rattle.xform_rules.specs.Rules.{explores};
 ghost use Rattle.std.specs.Option.{option_map};
 ghost use Rattle.query_core.specs.declared.expressions.ExprParts.{ExprParts};
 ghost use Rattle.query_core.specs.declared.expressions.Operator.TheVariants as operators;
@@ -38,6 +43,21 @@ fn is_for(query: &Query, rule: Rule, group: KeyParts, from: Logical) -> bool
     match rule.work() {
         Work::Explores(way) => is_explored(query, way, group, from),
         Work::Implements(condition) => made(query, rule, condition, group, from, 0).is_some(),
+    }
+}
+
+/// The rules that explore what is wanted, in the order of their numbers. No other rule that explores is for it.
+pub fn exploring_rules(from: Logical) -> &'static [Rule]
+    ensures every { (q : AnyQuery) (rule : AnyRule) (group : AnyGroup) →
+        explores rule ≡ true → IsFor q rule group from → Contains result.now rule }
+{
+    match from {
+        Logical::Get => &[],
+        Logical::Select(_) => &[],
+        Logical::NJoin => &[Rule::ExpandNAry],
+        Logical::Join(_, _) => &[Rule::JoinCommute, Rule::JoinAssociate],
+        Logical::Agg(_) => &[Rule::SplitAgg],
+        Logical::Partial(_) => &[],
     }
 }
 

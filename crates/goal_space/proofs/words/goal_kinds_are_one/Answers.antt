@@ -8,9 +8,10 @@ pub returns : goal.returns
 returns c =
     let exprs = c.expressions_are_one.ensures in
     let near = c.groups_are_known.ensures.small in
-    let fits = goal_fits exprs.expressions exprs.groups exprs.small near in
+    let rules = c.rules_are_known.ensures in
+    let fits = goal_fits exprs.expressions exprs.groups exprs.small near rules in
     record {
-      one = word_one exprs.expressions exprs.groups exprs.small near c.goals_are_one.ensures.one;
+      one = word_one exprs.expressions exprs.groups exprs.small near rules c.goals_are_one.ensures.one;
       fits = fits;
       high = λ (k : GoalKind). omega arith;
       small = λ (k : GoalKind) (in_range : IsInRange k). c.goals_are_one.ensures.small (parts_of k) (fits k in_range);
