@@ -1,18 +1,21 @@
 -- What is asked of a child, for a request that has numbers, has numbers too, whether or not the request lies in the
 -- group.
-use Rattle.std.proofs.Common.{ℕ, zero, suc, sym, subst, inl, inr, arith}
+use Rattle.std.proofs.Common.{ℕ, Option, None, Some, sym, subst, inl, inr, arith}
 use Rattle.query_core.specs.Expressions.{expr_of, physical_children, IsCandidate}
 use Rattle.query_core.specs.declared.query.Query.{Query}
 use Rattle.query_core.specs.declared.words.KeyParts.{KeyParts}
 use Rattle.query_core.specs.declared.expressions.Children.{Children}
 use Rattle.query_core.specs.declared.expressions.Children.TheVariants as arities
 use Rattle.query_core.specs.declared.expressions.PhysicalExpr.{PhysicalExpr}
+use Rattle.cost_units.specs.declared.shape.Class.{Class}
+use Rattle.cost_units.specs.declared.shape.Class.TheVariants as classes
 use Rattle.request_props.specs.declared.given.GivenDist.{GivenDist}
-use Rattle.request_props.specs.declared.given.GivenDist.TheVariants as given
 use Rattle.request_props.specs.declared.request.Dist.{Dist}
 use Rattle.request_props.specs.declared.request.Dist.TheVariants as dists
 use Rattle.request_props.specs.declared.request.Request.{Request}
-use Rattle.request_props.specs.Fitting.{DistFits, Fits}
+use Rattle.request_props.specs.Dists.{class_of, class_asked, list_given, list_asked}
+use Rattle.request_props.specs.Satisfied.{InOneClass, ListMeets, Meets}
+use Rattle.request_props.specs.Fitting.{ListFits, DistFits, Fits}
 use Rattle.plan_space.specs.Lines.{request}
 use Rattle.plan_space.specs.declared.lines.LeftDist.{LeftDist}
 use Rattle.plan_space.specs.declared.lines.LeftDist.TheVariants as left_dists
@@ -23,19 +26,32 @@ use Rattle.plan_space.specs.declared.lines.Line.TheVariants as lines
 use Rattle.plan_space.specs.Alternatives.{dist_asked, left_asked, asked_of, DistServes, OrderServes, LeftServes}
 use Rattle.plan_space.specs.Alternatives.{LineServes, IsAlternative}
 use Rattle.plan_space.specs.Choices.{groups_of}
-use Rattle.plan_space.specs.Enforcers.{EnforcedBy, motions_of, enforcers_by, enforcers_of, Among}
+use Rattle.plan_space.specs.Enforcers.{EnforcedBy, enforcers_of, Among}
+use Rattle.plan_space.proofs.MotionLaws.{enforcer_for}
 use Rattle.plan_space.specs.Laws.{RequestsFit, AsksWhatFits}
 use Rattle.goal_space.specs.Children.{IsAsked, AsksOf}
-use Rattle.goal_children.specs.Over.{IsDistNumbered, IsNumberedRequest}
+use Rattle.goal_children.specs.Over.{IsListNumbered, IsDistNumbered, IsNumberedRequest}
 
 -- ---- requests that fit everywhere
 
--- a distribution without a list, which rows that lie so meet
+-- a distribution of the class without a list
+abbrev plain_by : Class → Dist
+plain_by classes.Spread = dists.Spread
+plain_by classes.One = dists.One
+plain_by classes.Copies = dists.Copies
+
+-- one that rows which lie so meet
 abbrev plain_of : GivenDist → Dist
-plain_of given.One = dists.One
-plain_of (given.Hashed list) = dists.Spread
-plain_of given.Random = dists.Spread
-plain_of given.Copies = dists.Copies
+plain_of dist = plain_by (class_of dist)
+
+class_meets : (class : Class) (list : Option ℕ)
+    → InOneClass class (class_asked (plain_by class)) (ListMeets list (list_asked (plain_by class)))
+class_meets classes.Spread list = tt
+class_meets classes.One list = tt
+class_meets classes.Copies list = tt
+
+plain_meets : (dist : GivenDist) → Meets dist (plain_of dist)
+plain_meets dist = class_meets (class_of dist) (list_given dist)
 
 -- the same, of what a line gives
 abbrev plain_dist : LeftDist → Dist
@@ -58,11 +74,13 @@ module _ (q : Query) where
     order = λ k d below. absurd (omega (arith, below));
   }
 
+  plain_by_fits : (group : KeyParts) (class : Class) → DistFits q group (plain_by class)
+  plain_by_fits group classes.Spread = tt
+  plain_by_fits group classes.One = tt
+  plain_by_fits group classes.Copies = tt
+
   plain_of_fits : (group : KeyParts) (dist : GivenDist) → Fits q group (request (plain_of dist) 0)
-  plain_of_fits group given.One = unordered_fits group dists.One tt
-  plain_of_fits group (given.Hashed list) = unordered_fits group dists.Spread tt
-  plain_of_fits group given.Random = unordered_fits group dists.Spread tt
-  plain_of_fits group given.Copies = unordered_fits group dists.Copies tt
+  plain_of_fits group dist = unordered_fits group (plain_of dist) (plain_by_fits group (class_of dist))
 
   plain_dist_fits : (group : KeyParts) (dist : LeftDist) → Fits q group (request (plain_dist dist) 0)
   plain_dist_fits group (left_dists.Fixed gives asked) = plain_of_fits group gives
@@ -78,10 +96,7 @@ module _ (q : Query) where
   -- ---- lines serve them
 
   plain_dist_served : (dist : LeftDist) (wanted : Dist) → DistServes q dist wanted → DistServes q dist (plain_dist dist)
-  plain_dist_served (left_dists.Fixed given.One asked) wanted serves = tt
-  plain_dist_served (left_dists.Fixed (given.Hashed list) asked) wanted serves = tt
-  plain_dist_served (left_dists.Fixed given.Random asked) wanted serves = tt
-  plain_dist_served (left_dists.Fixed given.Copies asked) wanted serves = tt
+  plain_dist_served (left_dists.Fixed gives asked) wanted serves = plain_meets gives
   plain_dist_served (left_dists.Grouped list) wanted serves = (serves.0, tt)
   plain_dist_served left_dists.Same wanted serves = tt
   plain_dist_served left_dists.SameSpread wanted serves = tt
@@ -118,10 +133,7 @@ module _ (q : Query) where
 
   plain_served : (line : Line) (children : Children) (wanted : Request) → LineServes q line children wanted
       → LineServes q line children (plain_request line)
-  plain_served (lines.Leaf given.One order) arities.Zero wanted serves = record { dist = tt; order = tt }
-  plain_served (lines.Leaf (given.Hashed list) order) arities.Zero wanted serves = record { dist = tt; order = tt }
-  plain_served (lines.Leaf given.Random order) arities.Zero wanted serves = record { dist = tt; order = tt }
-  plain_served (lines.Leaf given.Copies order) arities.Zero wanted serves = record { dist = tt; order = tt }
+  plain_served (lines.Leaf dist order) arities.Zero wanted serves = record { dist = plain_meets dist; order = tt }
   plain_served (lines.Leaf dist order) (arities.One child) wanted serves = absurd serves
   plain_served (lines.Leaf dist order) (arities.Two left right) wanted serves = absurd serves
   plain_served (lines.Above dist order) arities.Zero wanted serves = absurd serves
@@ -136,11 +148,12 @@ module _ (q : Query) where
 
   -- ---- so what lines ask for has numbers
 
+  fitting_list : (group : KeyParts) (list : Option ℕ) → ListFits q group list → IsListNumbered q list
+  fitting_list group None fits = tt
+  fitting_list group (Some list) fits = fits.numbered
+
   fitting_dist : (group : KeyParts) (dist : Dist) → DistFits q group dist → IsDistNumbered q dist
-  fitting_dist group dists.One fits = tt
-  fitting_dist group dists.Spread fits = tt
-  fitting_dist group dists.Copies fits = tt
-  fitting_dist group (dists.Hashed list) fits = fits.numbered
+  fitting_dist group dist = fitting_list group (list_asked dist)
 
   pub fitting_request : (group : KeyParts) (wanted : Request) → Fits q group wanted → IsNumberedRequest q wanted
   fitting_request group wanted fits = record { dist = fitting_dist group wanted.dist fits.dist; order = fits.numbered }
@@ -203,32 +216,14 @@ module _ (q : Query) where
   unordered_numbered : (dist : Dist) → IsDistNumbered q dist → IsNumberedRequest q (request dist 0)
   unordered_numbered dist numbered = record { dist = numbered; order = omega arith }
 
-  motion_numbered : (dist : Dist) (e : EnforcedBy) → Among e (motions_of dist) → IsNumberedRequest q e.below
-  motion_numbered dists.One e (inl same) = subst (λ (x : EnforcedBy). IsNumberedRequest q x.below) (sym same)
-      (unordered_numbered dists.Spread tt)
-  motion_numbered dists.One e (inr none) = absurd none
-  motion_numbered dists.Spread e none = absurd none
-  motion_numbered dists.Copies e (inl same) =
-      subst (λ (x : EnforcedBy). IsNumberedRequest q x.below) (sym same) (unordered_numbered dists.Spread tt)
-  motion_numbered dists.Copies e (inr none) = absurd none
-  motion_numbered (dists.Hashed list) e (inl same) =
-      subst (λ (x : EnforcedBy). IsNumberedRequest q x.below) (sym same) (unordered_numbered dists.Spread tt)
-  motion_numbered (dists.Hashed list) e (inr none) = absurd none
-
-  enforcer_by_numbered : (dist : Dist) (order : ℕ) (e : EnforcedBy) → IsNumberedRequest q (request dist order)
-      → Among e (enforcers_by dist order)
-      → IsNumberedRequest q e.below
-  enforcer_by_numbered dist zero e numbered among = motion_numbered dist e among
-  enforcer_by_numbered dist (suc place) e numbered (inl same) =
-      subst (λ (x : EnforcedBy). IsNumberedRequest q x.below) (sym same) (unordered_numbered dist numbered.dist)
-  enforcer_by_numbered dists.One (suc place) e numbered (inr (inl same)) =
-      subst (λ (x : EnforcedBy). IsNumberedRequest q x.below) (sym same) (record { dist = tt; order = numbered.order })
-  enforcer_by_numbered dists.One (suc place) e numbered (inr (inr none)) = absurd none
-  enforcer_by_numbered dists.Spread (suc place) e numbered (inr none) = absurd none
-  enforcer_by_numbered dists.Copies (suc place) e numbered (inr none) = absurd none
-  enforcer_by_numbered (dists.Hashed list) (suc place) e numbered (inr none) = absurd none
-
   -- what an enforcer asks for has numbers
   pub enforcer_numbered : (wanted : Request) (e : EnforcedBy) → IsNumberedRequest q wanted
       → Among e (enforcers_of wanted) → IsNumberedRequest q e.below
-  enforcer_numbered wanted e numbered among = enforcer_by_numbered wanted.dist wanted.order e numbered among
+  enforcer_numbered wanted e numbered among = elim (enforcer_for wanted e among) [
+    | inl (motion, is) ↦ subst (λ (x : EnforcedBy). IsNumberedRequest q x.below) (sym is.same)
+        (unordered_numbered dists.Spread tt)
+    | inr (inl is) ↦ subst (λ (x : EnforcedBy). IsNumberedRequest q x.below) (sym is.same)
+        (unordered_numbered wanted.dist numbered.dist)
+    | inr (inr is) ↦ subst (λ (x : EnforcedBy). IsNumberedRequest q x.below) (sym is.same)
+        (record { dist = tt; order = numbered.order })
+  ]

@@ -1,15 +1,14 @@
 -- The children of a goal over a query are goals over it.
-use Rattle.std.proofs.Common.{◌≡◌, ℕ, ◌≤◌, List, length, sym, subst, inl, inr, arith}
+use Rattle.std.proofs.Common.{◌≡◌, ℕ, ◌≤◌, Option, None, Some, List, length, sym, subst, inl, inr, arith}
 use Rattle.query_core.specs.Keys as keys
 use Rattle.query_core.specs.Keys.{IsGroup}
 use Rattle.query_core.specs.Expressions.{children_of, expr_of, physical_children, IsCandidate, IsChild, IsPacked}
 use Rattle.query_core.specs.declared.query.Query.{Query}
 use Rattle.query_core.specs.declared.words.KeyParts.{KeyParts}
 use Rattle.query_core.specs.declared.expressions.ExprParts.{ExprParts}
+use Rattle.request_props.specs.Dists.{list_asked}
 use Rattle.request_props.specs.Requests as requests
 use Rattle.request_props.specs.Numbered.{lists_of, orders_of}
-use Rattle.request_props.specs.declared.request.Dist.{Dist}
-use Rattle.request_props.specs.declared.request.Dist.TheVariants as dists
 use Rattle.request_props.specs.declared.request.Request.{Request}
 use Rattle.plan_space.specs.Laws.{AsksWhatFits}
 use Rattle.goal_space.specs.Words.{IsInRange}
@@ -17,7 +16,7 @@ use Rattle.goal_space.specs.OfMembers.{left_child, asked_child}
 use Rattle.goal_space.specs.Laws.{IsOfCandidate}
 use Rattle.goal_space.specs.declared.goals.GoalKind.{GoalKind}
 use Rattle.goal_space.specs.declared.goals.GoalKind.TheVariants.{Exp, ExpE, Xf, Imp, ImpE, Opt, OptE}
-use Rattle.goal_children.specs.Over.{IsDistNumbered, IsNumberedRequest, IsGoalOver}
+use Rattle.goal_children.specs.Over.{IsListNumbered, IsNumberedRequest, IsGoalOver}
 use Rattle.goal_children.specs.Children.{IsChildIn}
 use Rattle.goal_children.proofs.Asking.{asks_numbered, enforcer_numbered}
 
@@ -73,16 +72,14 @@ module _ (q : Query) (group_below : (e : ExprParts) (g : KeyParts) → IsCandida
 -- ---- words
 
 module _ (q : Query) (few_lists : length (lists_of q) ≤ 60) (few_orders : length (orders_of q) ≤ 60) where
-  dist_in_range : (dist : Dist) → IsDistNumbered q dist → requests.IsDistInRange dist
-  dist_in_range dists.One numbered = tt
-  dist_in_range dists.Spread numbered = tt
-  dist_in_range dists.Copies numbered = tt
-  dist_in_range (dists.Hashed list) numbered = omega (arith, few_lists, numbered)
+  list_in_range : (list : Option ℕ) → IsListNumbered q list → requests.IsListInRange list
+  list_in_range None numbered = tt
+  list_in_range (Some list) numbered = omega (arith, few_lists, numbered)
 
   -- a request that has numbers has a code
   pub request_in_range : (wanted : Request) → IsNumberedRequest q wanted → requests.IsInRange wanted
   request_in_range wanted numbered = record {
-    list = dist_in_range wanted.dist numbered.dist;
+    list = list_in_range (list_asked wanted.dist) numbered.dist;
     numbered = omega (arith, few_orders, numbered.order);
   }
 

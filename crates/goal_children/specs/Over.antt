@@ -1,22 +1,24 @@
 -- Goals over a query: about its groups and candidates, for requests that have a number.
-use Rattle.std.specs.Prelude.{ℕ, ◌≡◌, ◌<◌, List, All, length, ⊤}
+use Rattle.std.specs.Prelude.{ℕ, ◌≡◌, ◌<◌, List, All, length, Option, None, Some, ⊤}
 use Rattle.std.specs.List.Sorted.{IsStrictlyIncreasing}
 use Rattle.query_core.specs.declared.query.Query.{Query}
+use Rattle.request_props.specs.Dists.{list_asked}
 use Rattle.request_props.specs.Numbered.{lists_of, IsNumbered}
 use Rattle.request_props.specs.declared.request.Dist.{Dist}
-use Rattle.request_props.specs.declared.request.Dist.TheVariants as dists
 use Rattle.request_props.specs.declared.request.Request.{Request}
 use Rattle.goal_space.specs.Words.{goal_word}
 use Rattle.goal_space.specs.Laws.{IsOfCandidate}
 use Rattle.goal_space.specs.declared.goals.GoalKind.{GoalKind}
 use Rattle.goal_space.specs.declared.goals.GoalKind.TheVariants.{Exp, ExpE, Xf, Imp, ImpE, Opt, OptE}
 
--- the list of a hashed distribution has a number
+-- the list has a number, if there is one
+abbrev pub IsListNumbered : Query → Option ℕ → Type 0
+IsListNumbered q None = ⊤
+IsListNumbered q (Some list) = list < length (lists_of q)
+
+-- so has that of a distribution
 abbrev pub IsDistNumbered : Query → Dist → Type 0
-IsDistNumbered q dists.One = ⊤
-IsDistNumbered q dists.Spread = ⊤
-IsDistNumbered q dists.Copies = ⊤
-IsDistNumbered q (dists.Hashed list) = list < length (lists_of q)
+IsDistNumbered q dist = IsListNumbered q (list_asked dist)
 
 -- the request's list and order have numbers, wherever they lie
 pub record IsNumberedRequest (q : Query) (wanted : Request) : Type 0 where

@@ -1,5 +1,5 @@
 -- The rank by a goal's word is the goal's rank.
-use Rattle.std.proofs.Common.{◌≡◌, ℕ, ◌+◌, ◌-◌, refl, ap, ◌∙◌, arith}
+use Rattle.std.proofs.Common.{◌≡◌, ℕ, ◌+◌, ◌-◌, Option, None, Some, length, refl, ap, sym, ◌∙◌, arith}
 use Rattle.std.proofs.lemmas.Bool.{lt-ltb, le-ltb, ne_eqb}
 use Rattle.query_core.specs.Keys as keys
 use Rattle.query_core.specs.Keys.{key_number}
@@ -13,8 +13,12 @@ use Rattle.query_core.proofs.ExpressionLemmas.{key_read}
 use Rattle.request_props.specs.Requests as requests
 use Rattle.request_props.specs.Requests.{dist_code, code_of, dist_field, order_field}
 use Rattle.request_props.specs.declared.request.Dist.{Dist}
-use Rattle.request_props.specs.declared.request.Dist.TheVariants as dists
+use Rattle.request_props.specs.declared.request.Dist.TheVariants.{Spread}
 use Rattle.request_props.specs.declared.request.Request.{Request}
+use Rattle.request_props.proofs.DistCodes.{code_one}
+use Rattle.plan_space.specs.declared.nodes.Motion.{Motion}
+use Rattle.plan_space.specs.Enforcers.{motion_to, motions_in}
+use Rattle.plan_space.proofs.MotionLaws.{none_moves}
 use Rattle.xform_rules.specs.Counts.{table_count}
 use Rattle.goal_space.specs.Words.{parts_of, goal_word, IsInRange}
 use Rattle.goal_space.specs.Ranks.{level_of, dist_rank, order_rank, request_rank, rank_of}
@@ -52,12 +56,19 @@ expr_ranked e packed = ap level_by (key_read e (word_of e) (record { packed = pa
 
 -- ---- requests
 
+-- where there is no motion to a distribution, its code is that of spread rows
+dist_by : (dist : Dist) (found : Option Motion) → motion_to dist ≡ found
+    → dist_rank_by (dist_code dist) ≡ length (motions_in found)
+dist_by dist None none = ap (λ (d : Dist). dist_rank_by (dist_code d)) (none_moves dist none)
+dist_by dist (Some motion) moves =
+    rw (ne_eqb (dist_code dist) (dist_code Spread) (λ same. spread_moves motion (code_one dist Spread same) moves)) refl
+  where
+    spread_moves : (motion : Motion) → dist ≡ Spread → motion_to dist ≡ Some motion → ⊥
+    spread_moves motion is moves = let never : None ≡ Some motion = sym (ap motion_to is) ∙ moves in cc
+
 -- the rank by a distribution's code is that of the distribution
 dist_ranked : (dist : Dist) → dist_rank_by (dist_code dist) ≡ dist_rank dist
-dist_ranked dists.One = refl
-dist_ranked dists.Spread = refl
-dist_ranked dists.Copies = refl
-dist_ranked (dists.Hashed list) = rw (ne_eqb (3 + list) 1 (λ same. omega (arith, same))) refl
+dist_ranked dist = dist_by dist (motion_to dist) refl
 
 -- the rank by a request's code is that of the request
 request_ranked : (wanted : Request) → requests.IsInRange wanted

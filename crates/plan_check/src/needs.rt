@@ -10,10 +10,11 @@ ghost use Rattle.plan_space.specs.Valid.{CanSort, CanMerge, CanRedistribute, Enf
 ghost use Rattle.plan_tree.specs.Seen.{kids_seen};
 ghost use Rattle.plan_check.specs.Nodes.{IsKindOf};
 
+use cost_units::Class;
 use plan_space::{Enforcer, Kid, LeftDist, LeftOrder, Line, NodeKind};
 use plan_tree::{Below, given_satisfies, line_of};
 use query_core::{Children, KeyParts, PhysicalExpr, Query};
-use request_props::{Dist, Given, GivenDist, GivenOrder, Props, Request};
+use request_props::{Dist, Given, GivenDist, GivenOrder, Props, Request, class_of};
 
 /// Whether the node may stand over plans that are seen so.
 pub fn node_fits(query: &Query, props: &Props, kind: NodeKind, below: Below) -> bool
@@ -154,12 +155,7 @@ fn order_needs(query: &Query, props: &Props, order: LeftOrder, given: GivenOrder
 fn is_spread(dist: GivenDist) -> bool
     ensures { IsTrue result ↔ IsSpread dist }
 {
-    match dist {
-        GivenDist::One => false,
-        GivenDist::Hashed(_) => true,
-        GivenDist::Random => true,
-        GivenDist::Copies => false,
-    }
+    class_of(dist) == Class::Spread
 }
 
 // Whether rows that lie so are distributed as asked.

@@ -35,30 +35,11 @@ enforcer_small (Redistribute o) x = omega arith
 
 enforcer_one : (e f : Enforcer) → EnforcerInRange e → EnforcerInRange f → enforcer_number e ≡ enforcer_number f → e ≡ f
 enforcer_one Gather Gather x y same = refl
-enforcer_one Gather Broadcast x y same = absurd (omega arith)
-enforcer_one Gather (Sort p) x y same = absurd (omega arith)
-enforcer_one Gather (GatherMerge p) x y same = absurd (omega arith)
-enforcer_one Gather (Redistribute p) x y same = absurd (omega arith)
-enforcer_one Broadcast Gather x y same = absurd (omega arith)
 enforcer_one Broadcast Broadcast x y same = refl
-enforcer_one Broadcast (Sort p) x y same = absurd (omega arith)
-enforcer_one Broadcast (GatherMerge p) x y same = absurd (omega arith)
-enforcer_one Broadcast (Redistribute p) x y same = absurd (omega arith)
-enforcer_one (Sort o) Gather x y same = absurd (omega arith)
-enforcer_one (Sort o) Broadcast x y same = absurd (omega arith)
 enforcer_one (Sort o) (Sort p) x y same = let number_is : o ≡ p = omega arith in cc
-enforcer_one (Sort o) (GatherMerge p) x y same = absurd (omega arith)
-enforcer_one (Sort o) (Redistribute p) x y same = absurd (omega arith)
-enforcer_one (GatherMerge o) Gather x y same = absurd (omega arith)
-enforcer_one (GatherMerge o) Broadcast x y same = absurd (omega arith)
-enforcer_one (GatherMerge o) (Sort p) x y same = absurd (omega arith)
 enforcer_one (GatherMerge o) (GatherMerge p) x y same = let number_is : o ≡ p = omega arith in cc
-enforcer_one (GatherMerge o) (Redistribute p) x y same = absurd (omega arith)
-enforcer_one (Redistribute o) Gather x y same = absurd (omega arith)
-enforcer_one (Redistribute o) Broadcast x y same = absurd (omega arith)
-enforcer_one (Redistribute o) (Sort p) x y same = absurd (omega arith)
-enforcer_one (Redistribute o) (GatherMerge p) x y same = absurd (omega arith)
 enforcer_one (Redistribute o) (Redistribute p) x y same = let number_is : o ≡ p = omega arith in cc
+enforcer_one e f x y same = absurd (omega arith)
 
 pub number_names_one : ((e f : ExprParts) → IsPacked e → IsPacked f → word_of e ≡ word_of f → e ≡ f) → (k l : NodeKind)
     → IsInRange k → IsInRange l → number_of k ≡ number_of l → k ≡ l
