@@ -38,8 +38,8 @@ pub fn push_group(query: &Query, group: KeyParts, text: &mut String) -> Result<(
     }
 }
 
-/// Adds a name, and in brackets the tables of a group.
-pub fn push_named(
+// Adds a name, and in brackets the tables of a group.
+fn push_named(
     query: &Query,
     name: &str,
     group: KeyParts,

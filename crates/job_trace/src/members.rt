@@ -3,11 +3,11 @@
 
 ghost use Rattle.std.specs.Prelude.{◌≡◌, OnOk, string_bytes};
 ghost use Rattle.query_text.specs.Added.{Adds};
-ghost use Rattle.job_trace.specs.Groups as texts_of_groups;
 ghost use Rattle.job_trace.specs.Members as texts;
 
-use crate::groups::{push_named, push_tables};
-use query_core::{ExprParts, KeyParts, Logical, Operator, Physical, Query};
+use crate::groups::push_tables;
+use query_core::{Access, ExprParts, KeyParts, Logical, Operator, Physical, Query};
+use query_text::name_of_operator;
 use std::alloc::AllocError;
 
 /// Adds the line of a member, two spaces before it.
@@ -44,13 +44,42 @@ fn push_logical(
     ensures ok { OnOk result (Adds (string_bytes text.old)
         (texts.logical_text query.now group operator) (string_bytes text.new)) }
 {
+    text.push_str(logical_name(operator))?;
+    text.push_str("(")?;
+    push_about(query, group, operator, text)?;
+    text.push_str(")")
+}
+
+fn logical_name(operator: Logical) -> &'static str
+    ensures { result.now ≡ texts.logical_name operator }
+{
     match operator {
-        Logical::Get => push_named(query, "Get", group, text),
-        Logical::Select(_) => push_named(query, "Select", group, text),
-        Logical::NJoin => push_named(query, "NJoin", group, text),
-        Logical::Join(left, right) => push_sides(query, "Join", left, right, text),
-        Logical::Agg(child) => push_source("Agg", child, text),
-        Logical::Partial(child) => push_source("Partial", child, text),
+        Logical::Get => "Get",
+        Logical::Select(_) => "Select",
+        Logical::NJoin => "NJoin",
+        Logical::Join(_, _) => "Join",
+        Logical::Agg(_) => "Agg",
+        Logical::Partial(_) => "Partial",
+    }
+}
+
+// What a logical operator of the group is about.
+fn push_about(
+    query: &Query,
+    group: KeyParts,
+    operator: Logical,
+    text: &mut String,
+) -> Result<(), AllocError>
+    ensures ok { OnOk result (Adds (string_bytes text.old)
+        (texts.logical_about query.now group operator) (string_bytes text.new)) }
+{
+    match operator {
+        Logical::Get => push_tables(query, group, text),
+        Logical::Select(_) => push_tables(query, group, text),
+        Logical::NJoin => push_tables(query, group, text),
+        Logical::Join(left, right) => push_sides(query, left, right, text),
+        Logical::Agg(child) => text.push_str(source_text(child)),
+        Logical::Partial(child) => text.push_str(source_text(child)),
     }
 }
 
@@ -63,67 +92,62 @@ fn push_physical(
     ensures ok { OnOk result (Adds (string_bytes text.old)
         (texts.physical_text query.now group operator) (string_bytes text.new)) }
 {
-    match operator {
-        Physical::Scan => push_named(query, "Scan", group, text),
-        Physical::IndexScan(index) => push_index(query, "IndexScan", group, index, text),
-        Physical::Filter(_) => push_named(query, "Filter", group, text),
-        Physical::IndexSeek(index) => push_index(query, "IndexSeek", group, index, text),
-        Physical::HashJoin(left, right) => push_sides(query, "HashJoin", left, right, text),
-        Physical::MergeJoin(left, right) => push_sides(query, "MergeJoin", left, right, text),
-        Physical::LoopJoin(left, right) => push_sides(query, "LoopJoin", left, right, text),
-        Physical::HashAgg(child) => push_source("HashAgg", child, text),
-        Physical::StreamAgg(child) => push_source("StreamAgg", child, text),
-        Physical::PartialAgg(child) => push_source("PartialAgg", child, text),
+    text.push_str(name_of_operator(operator))?;
+    text.push_str("(")?;
+    push_about_by(
+        query,
+        group,
+        operator.implements(group),
+        operator.access(),
+        text,
+    )?;
+    text.push_str(")")
+}
+
+// What an operator is about that implements this, and comes to its rows so.
+fn push_about_by(
+    query: &Query,
+    group: KeyParts,
+    operator: Logical,
+    access: Access,
+    text: &mut String,
+) -> Result<(), AllocError>
+    ensures ok { OnOk result (Adds (string_bytes text.old)
+        (texts.about_by query.now group operator access) (string_bytes text.new)) }
+{
+    match access {
+        Access::Direct => push_about(query, group, operator, text),
+        Access::Index(index) => push_index(query, group, index, text),
     }
 }
 
-// An operator over an index of its group's table.
+// An index of the group's table.
 fn push_index(
     query: &Query,
-    name: &str,
     group: KeyParts,
     index: u32,
     text: &mut String,
 ) -> Result<(), AllocError>
     ensures ok { OnOk result (Adds (string_bytes text.old)
-        (texts_of_groups.named name.now (texts.index_text query.now group index))
-        (string_bytes text.new)) }
+        (texts.index_text query.now group index) (string_bytes text.new)) }
 {
-    text.push_str(name)?;
-    text.push_str("(")?;
     push_tables(query, group, text)?;
-    write!(text, ", i{index})")
+    write!(text, ", i{index}")
 }
 
-// An operator over two groups.
+// The two sides of a join.
 fn push_sides(
     query: &Query,
-    name: &str,
     left: KeyParts,
     right: KeyParts,
     text: &mut String,
 ) -> Result<(), AllocError>
     ensures ok { OnOk result (Adds (string_bytes text.old)
-        (texts_of_groups.named name.now (texts.sides_text query.now left right))
-        (string_bytes text.new)) }
+        (texts.sides_text query.now left right) (string_bytes text.new)) }
 {
-    text.push_str(name)?;
-    text.push_str("(")?;
     push_tables(query, left, text)?;
     text.push_str(" | ")?;
-    push_tables(query, right, text)?;
-    text.push_str(")")
-}
-
-// An aggregation, with what is aggregated.
-fn push_source(name: &str, child: KeyParts, text: &mut String) -> Result<(), AllocError>
-    ensures ok { OnOk result (Adds (string_bytes text.old)
-        (texts_of_groups.named name.now (texts.source_text child)) (string_bytes text.new)) }
-{
-    text.push_str(name)?;
-    text.push_str("(")?;
-    text.push_str(source_text(child))?;
-    text.push_str(")")
+    push_tables(query, right, text)
 }
 
 fn source_text(child: KeyParts) -> &'static str

@@ -4,14 +4,17 @@
 ghost use Rattle.std.specs.Prelude.{◌≡◌, IfOk, IfSome, IsTrue, OnOk, length, min, string_bytes};
 ghost use Rattle.request_props.specs.Numbered.{IsProps};
 ghost use Rattle.query_core.specs.declared.query.Query.{Query as AnyQuery};
+ghost use Rattle.query_core.specs.Expressions.{expr_of};
 ghost use Rattle.query_text.specs.Added.{Adds};
+ghost use Rattle.job_trace.specs.Members.{member_text};
 ghost use Rattle.job_trace.specs.Pieces.{piece_text, AreKept};
 
 use crate::groups::push_group;
 use crate::members::push_member;
 use crate::requests::push_request;
 use orca_base::Text;
-use query_core::{KeyParts, Physical, PhysicalExpr, Query};
+use query_core::{Access, Children, KeyParts, PhysicalExpr, Query};
+use query_text::name_of_operator;
 use request_props::{Dist, Props, Request};
 use std::alloc::{AllocError, Global};
 use std::marker::Model;
@@ -116,36 +119,38 @@ impl Pieces {
     }
 }
 
-// Whether the two are one piece.
+// Whether the two pieces are one, or members with one text.
 fn is_same(one: Piece, other: Piece) -> bool
-    ensures { IsTrue result → one ≡ other }
+    ensures { (q : AnyQuery) → IsTrue result → piece_text q one ≡ piece_text q other }
 {
     match (one, other) {
         (Piece::Child(g, v), Piece::Child(h, w)) => g == h && v == w,
-        (Piece::Member(e), Piece::Member(f)) => {
-            e.group == f.group && is_same_operator(e.operator, f.operator)
-        }
+        (Piece::Member(e), Piece::Member(f)) => is_same_member(e, f),
         (Piece::Wanted(v), Piece::Wanted(w)) => v == w,
         _ => false,
     }
 }
 
-// Whether the two are one operator.
-fn is_same_operator(one: Physical, other: Physical) -> bool
+// Whether the operators of one group have one name, implement the same, and come to their rows alike.
+fn is_same_member(one: PhysicalExpr, other: PhysicalExpr) -> bool
+    ensures { (q : AnyQuery) → IsTrue result →
+        member_text q (expr_of one) ≡ member_text q (expr_of other) }
+{
+    let (o, p) = (one.operator, other.operator);
+    one.group == other.group
+        && o.implements(one.group) == p.implements(other.group)
+        && is_same_access(o.access(), p.access())
+        && name_of_operator(o) == name_of_operator(p)
+}
+
+fn is_same_access(one: Access, other: Access) -> bool
     ensures { IsTrue result → one ≡ other }
 {
     match (one, other) {
-        (Physical::Scan, Physical::Scan) => true,
-        (Physical::IndexScan(i), Physical::IndexScan(j)) => i == j,
-        (Physical::Filter(g), Physical::Filter(h)) => g == h,
-        (Physical::IndexSeek(i), Physical::IndexSeek(j)) => i == j,
-        (Physical::HashJoin(l, r), Physical::HashJoin(m, s)) => l == m && r == s,
-        (Physical::MergeJoin(l, r), Physical::MergeJoin(m, s)) => l == m && r == s,
-        (Physical::LoopJoin(l, r), Physical::LoopJoin(m, s)) => l == m && r == s,
-        (Physical::HashAgg(g), Physical::HashAgg(h)) => g == h,
-        (Physical::StreamAgg(g), Physical::StreamAgg(h)) => g == h,
-        (Physical::PartialAgg(g), Physical::PartialAgg(h)) => g == h,
-        _ => false,
+        (Access::Direct, Access::Direct) => true,
+        (Access::Direct, Access::Index(_)) => false,
+        (Access::Index(_), Access::Direct) => false,
+        (Access::Index(i), Access::Index(j)) => i == j,
     }
 }
 
@@ -215,7 +220,7 @@ fn place_of(piece: Piece, places: usize) -> usize {
 fn number_of(piece: Piece) -> u32 {
     match piece {
         Piece::Child(group, _) => number_of_group(group),
-        Piece::Member(e) => mixed(number_of_group(e.group), number_of_operator(e.operator)),
+        Piece::Member(e) => mixed(number_of_group(e.group), number_of_member(e)),
         Piece::Wanted(_) => 5,
     }
 }
@@ -244,19 +249,26 @@ fn number_of_group(group: KeyParts) -> u32 {
     }
 }
 
-// Members of one group differ in the operator or in what it stands on.
-fn number_of_operator(operator: Physical) -> u32 {
-    match operator {
-        Physical::Scan => 0,
-        Physical::IndexScan(index) => mixed(1, index),
-        Physical::Filter(_) => 2,
-        Physical::IndexSeek(index) => mixed(3, index),
-        Physical::HashJoin(left, _) => mixed(4, number_of_group(left)),
-        Physical::MergeJoin(left, _) => mixed(5, number_of_group(left)),
-        Physical::LoopJoin(left, _) => mixed(6, number_of_group(left)),
-        Physical::HashAgg(_) => 7,
-        Physical::StreamAgg(_) => 8,
-        Physical::PartialAgg(_) => 9,
+// Members of one group differ in the first letter of the operator's name, or in what it stands on.
+fn number_of_member(member: PhysicalExpr) -> u32 {
+    let name = name_of_operator(member.operator).as_bytes();
+    let letter = name.first().copied().unwrap_or(0);
+    mixed(u32::from(letter), number_below(member))
+}
+
+// A number that few have but the operators over one first group, or by one index.
+fn number_below(member: PhysicalExpr) -> u32 {
+    match member.operator.access() {
+        Access::Direct => number_of_first(member.children()),
+        Access::Index(index) => index,
+    }
+}
+
+fn number_of_first(children: Children) -> u32 {
+    match children {
+        Children::Zero => 0,
+        Children::One(child) => number_of_group(child),
+        Children::Two(left, _) => number_of_group(left),
     }
 }
 

@@ -1,36 +1,43 @@
 -- Texts are added to a list until it has those of all nodes that a query can name.
-use Rattle.std.proofs.Common.{◌≡◌, ℕ, ◌+◌, ◌-◌, ◌<◌, ◌≤◌, ◌⊎◌, List, [], ◌∷◌, ◌++◌, length, refl, sym, ap, ◌∙◌, subst}
-use Rattle.std.proofs.Common.{arith, inl, inr}
+use Rattle.std.proofs.Common.{◌≡◌, ℕ, zero, suc, ◌+◌, ◌<◌, ◌≤◌, ◌⊎◌, List, [], ◌∷◌, ◌++◌, length, get_or, refl, sym, ap, ◌∙◌}
+use Rattle.std.proofs.Common.{subst, arith, inl, inr}
 use Rattle.std.specs.List.{All, Contains}
 use Rattle.std.proofs.lemmas.Bool.{cases_lt}
 use Rattle.std.proofs.lemmas.List.Elements.{All-nil, All-cons, All-append, All-contains}
 use Rattle.std.proofs.lemmas.List.Elements.{Contains-append_left, Contains-append_right}
 use Rattle.query_core.specs.Expressions.{HasIndex}
 use Rattle.query_core.specs.declared.query.Query.{Query}
-use Rattle.query_core.specs.declared.words.KeyParts.TheVariants.{Get}
+use Rattle.query_core.specs.declared.expressions.Access.TheVariants.{Direct, Index}
 use Rattle.query_core.specs.declared.expressions.Physical.{Physical}
-use Rattle.query_core.specs.declared.expressions.Physical.TheVariants as physical
 use Rattle.request_props.specs.Numbered.{lists_of, orders_of}
-use Rattle.plan_space.specs.Modes.{mode_at, modes_end}
+use Rattle.plan_space.specs.Ways.{way_of}
 use Rattle.plan_space.specs.declared.modes.Mode.{Mode}
-use Rattle.plan_space.specs.declared.modes.Mode.TheVariants as modes
 use Rattle.plan_space.specs.declared.nodes.Enforcer.{Enforcer}
 use Rattle.plan_space.specs.declared.nodes.Enforcer.TheVariants as enforcers
-use Rattle.plan_space.proofs.ModeNumbers.{plain_at, copied_at, hashed_at}
+use Rattle.plan_space.specs.declared.ways.Kept.TheVariants.{Rows, SpreadRows}
+use Rattle.plan_space.specs.declared.ways.Way.{Way}
+use Rattle.plan_space.specs.declared.ways.Way.TheVariants.{Reads, Passes, Joins, Groups}
 use Rattle.plan_check.specs.Nodes.{IsEnforcerOf}
-use Rattle.plan_reading.specs.Named.{named_operator, named_text, HasForm, HasOnlyForm, HasReadForm}
-use Rattle.plan_reading.specs.Named.{HasHashForm, HasMergeForm, HasLoopForm, HasAggForm}
-use Rattle.plan_reading.specs.NodeOver.{number_in, IsSmall}
-use Rattle.plan_reading.specs.Texts.{IsNodeText, IsNodeTexts, Adds, IsOfMove, IsOfNumbers, IsOfJoin, IsOfAgg}
-use Rattle.plan_reading.specs.Texts.{IsOfOperator, IsOfTables, index_numbers}
+use Rattle.plan_reading.specs.Named.{named_text, HasForm, HasTable, IsOperatorOf}
+use Rattle.plan_reading.specs.NodeOver.{number_in}
+use Rattle.plan_reading.specs.Operators.{unplaced}
+use Rattle.plan_reading.specs.Texts.{IsNodeText, IsNodeTexts, Adds, IsOfAny, IsOfEnforcer, IsOfOperator, IsOfNumbers}
+use Rattle.plan_reading.specs.Texts.{IsOfTable, IsOfTables, index_numbers, moves}
 use Rattle.plan_reading.specs.declared.named.Named.{Named}
 use Rattle.plan_reading.specs.declared.named.Named.TheVariants as named
 use Rattle.plan_reading.specs.declared.texts.NodeText.{NodeText}
-use Rattle.plan_reading.proofs.ReadTexts.{read_few}
+use Rattle.plan_reading.proofs.OperatorRows.{first_same, listed, IsListed}
+use Rattle.plan_reading.proofs.SmallModes.{has_number, mode_small}
 
 -- a node with its text
 abbrev entry : List ℕ → Named → NodeText
 entry text node = record { text = text; node = node }
+
+-- what stands below the length doesn't depend on what stands for the rest
+got_same : {X : Type 0} (xs : List X) (n : ℕ) (a b : X) → n < length xs → get_or xs n a ≡ get_or xs n b
+got_same [] n a b below = absurd (omega (arith, below))
+got_same (x ∷ xs) zero a b below = refl
+got_same (x ∷ xs) (suc n) a b below = got_same xs n a b (omega (arith, below))
 
 module _ (q : Query) where
   -- ---- steps
@@ -97,121 +104,92 @@ module _ (q : Query) where
     ];
   }
 
-  pub adds_fewer : (Fact : ℕ → Named → Type 0) (n m : ℕ) (x y : List NodeText) → m ≤ n
-      → Adds q (λ node. (k : ℕ) × (k < n) × Fact k node) x y → Adds q (λ node. (k : ℕ) × (k < m) × Fact k node) x y
-  adds_fewer Fact n m x y most adds = record {
+  -- those that are wanted of what was added
+  pub adds_for : (A B : Named → Type 0) (x y : List NodeText) → ((node : Named) → B node → A node) → Adds q A x y
+      → Adds q B x y
+  adds_for A B x y goes adds = record {
     texts = adds.texts;
     kept = adds.kept;
-    added = λ node wanted form. let below = wanted.1 in
-        adds.added node (wanted.0, omega (arith, below, most), wanted.2) form;
+    added = λ node wanted form. adds.added node (goes node wanted) form;
   }
+
+  pub adds_fewer : (Fact : ℕ → Named → Type 0) (n m : ℕ) (x y : List NodeText) → m ≤ n
+      → Adds q (λ node. (k : ℕ) × (k < n) × Fact k node) x y → Adds q (λ node. (k : ℕ) × (k < m) × Fact k node) x y
+  adds_fewer Fact n m x y most =
+      adds_for (λ node. (k : ℕ) × (k < n) × Fact k node) (λ node. (k : ℕ) × (k < m) × Fact k node) x y
+      (λ node wanted. let below = wanted.1 in (wanted.0, omega (arith, below, most), wanted.2))
+
+  -- ---- of each element of a list
+
+  module _ {X : Type 0} (Fact : X → Named → Type 0) (list : List X) where
+    -- of what stands at this place
+    abbrev pub IsOfPlace : ℕ → Named → Type 0
+    IsOfPlace k node = (x : X) × (get_or list k x ≡ x) × Fact x node
+
+    pub place_next : (n : ℕ) (other : X) (x y z : List NodeText) → n < length list
+        → Adds q (λ node. (k : ℕ) × (k < n) × IsOfPlace k node) x y → Adds q (Fact (get_or list n other)) y z
+        → Adds q (λ node. (k : ℕ) × (k < n + 1) × IsOfPlace k node) x z
+    place_next n other x y z below first second =
+        adds_next IsOfPlace n x y z first
+        (adds_for (Fact (get_or list n other)) (IsOfPlace n) y z
+        (λ node wanted. subst (λ o. Fact o node) (sym wanted.1 ∙ got_same list n wanted.0 other below) wanted.2) second)
+
+    pub places_all : (n : ℕ) (x y : List NodeText) → length list ≤ n
+        → Adds q (λ node. (k : ℕ) × (k < n) × IsOfPlace k node) x y → Adds q (IsOfAny Fact list) x y
+    places_all n x y most =
+        adds_for (λ node. (k : ℕ) × (k < n) × IsOfPlace k node) (IsOfAny Fact list) x y
+        (λ node wanted. let below = wanted.1.1 in
+        (wanted.1.0, omega (arith, below, most), (wanted.0, wanted.1.2, wanted.2)))
 
   -- ---- the whole list
 
-  pub record HasNumber (mode : Mode) : Type 0 where
-    pub less : number_in mode < modes_end
-    pub back : mode ≡ mode_at (number_in mode)
-
-  pub has_number : (mode : Mode) → IsSmall mode → HasNumber mode
-  has_number (modes.Plain n) small = record { less = omega (arith, small); back = sym (plain_at n small) }
-  has_number (modes.Copied n) small = record {
-    less = omega (arith, small);
-    back = let e : (64 + n) - 64 ≡ n = omega arith in
-        sym (copied_at (64 + n) (omega arith) (omega (arith, small)) ∙ ap modes.Copied e);
-  }
-  has_number (modes.Hashed n) small = record {
-    less = omega (arith, small);
-    back = let e : (128 + n) - 128 ≡ n = omega arith in sym (hashed_at (128 + n) (omega arith) ∙ ap modes.Hashed e);
-  }
-
-  -- an operator in such a mode has its text once all modes were gone through
-  in_modes : (t : ℕ) (o : Physical) (mode : Mode) → IsSmall mode → IsOfOperator t o (named_operator o t mode)
-  in_modes t o mode small =
-      let has = has_number mode small in (number_in mode, has.less, ap (named_operator o t) has.back)
-
-  preds_small : (n : ℕ) → n < length q.preds → n < 64
-  preds_small n below = let few = q.preds_valid.few in omega (arith, below, few)
-
-  pub only_small : (mode : Mode) → HasOnlyForm mode → IsSmall mode
-  only_small (modes.Plain n) form = omega (arith, form)
-  only_small (modes.Copied n) form = absurd form
-  only_small (modes.Hashed n) form = absurd form
-
-  pub read_small : (t : ℕ) (mode : Mode) → HasReadForm q t mode → IsSmall mode
-  read_small t (modes.Plain n) form = let few = read_few q t n form in omega (arith, few)
-  read_small t (modes.Copied n) form = absurd form
-  read_small t (modes.Hashed n) form = absurd form
-
-  pub hash_small : (mode : Mode) → HasHashForm q mode → IsSmall mode
-  hash_small (modes.Plain n) form = omega (arith, form)
-  hash_small (modes.Copied n) form = omega (arith, form)
-  hash_small (modes.Hashed n) form = preds_small n form
-
-  pub merge_small : (mode : Mode) → HasMergeForm q mode → IsSmall mode
-  merge_small (modes.Plain n) form = preds_small n form
-  merge_small (modes.Copied n) form = preds_small n form
-  merge_small (modes.Hashed n) form = preds_small n form
-
-  pub loop_small : (mode : Mode) → HasLoopForm mode → IsSmall mode
-  loop_small (modes.Plain n) form = omega (arith, form)
-  loop_small (modes.Copied n) form = omega (arith, form)
-  loop_small (modes.Hashed n) form = absurd form
-
   module _ (few_lists : length (lists_of q) ≤ 60) (few_orders : length (orders_of q) ≤ 60)
       (index_few : (t i : ℕ) → HasIndex q t i → (t < length q.tables) × (i < index_numbers)) where
-    pub agg_small : (mode : Mode) → HasAggForm q mode → IsSmall mode
-    agg_small (modes.Plain n) form = omega (arith, form)
-    agg_small (modes.Copied n) form = absurd form
-    agg_small (modes.Hashed n) form = omega (arith, form, few_lists)
-
     -- what is wanted in all
     abbrev pub IsOfSome : Named → Type 0
-    IsOfSome node =
-        IsOfMove node ⊎ IsOfNumbers 61 node ⊎ IsOfJoin node ⊎ IsOfAgg node ⊎ IsOfTables (length q.tables) node
+    IsOfSome node = IsOfAny IsOfEnforcer moves node ⊎ IsOfNumbers 61 node ⊎ IsOfTables (length q.tables) node
 
     enforcer_wanted : (e : Enforcer) → IsEnforcerOf q e → IsOfSome (named.Enforcer e)
-    enforcer_wanted enforcers.Gather is = inl (inl refl)
-    enforcer_wanted enforcers.Broadcast is = inl (inr refl)
+    enforcer_wanted enforcers.Gather is = inl (enforcers.Gather, (0, omega arith, refl), refl)
+    enforcer_wanted enforcers.Broadcast is = inl (enforcers.Broadcast, (1, omega arith, refl), refl)
     enforcer_wanted (enforcers.Sort n) is =
-        let numbered = is.numbered in inr (inl (n, omega (arith, numbered, few_orders), inl refl))
+        let numbered = is.numbered in
+        inr (inl (n, omega (arith, numbered, few_orders), (enforcers.Sort n, (0, omega arith, refl), refl)))
     enforcer_wanted (enforcers.GatherMerge n) is =
-        let numbered = is.numbered in inr (inl (n, omega (arith, numbered, few_orders), inr (inl refl)))
-    enforcer_wanted (enforcers.Redistribute n) is = inr (inl (n, omega (arith, is, few_lists), inr (inr refl)))
+        let numbered = is.numbered in
+        inr (inl (n, omega (arith, numbered, few_orders), (enforcers.GatherMerge n, (1, omega arith, refl), refl)))
+    enforcer_wanted (enforcers.Redistribute n) is =
+        inr (inl (n, omega (arith, is, few_lists), (enforcers.Redistribute n, (2, omega arith, refl), refl)))
+
+    -- the table is one of the query's, and 0 is one
+    table_below : (way : Way) (t : ℕ) → HasTable q way t → t < length q.tables
+    table_below (Reads Direct) t has = has
+    table_below (Reads (Index i)) t has = (index_few t i has).0
+    table_below (Passes Rows child) t has = has
+    table_below (Passes SpreadRows child) t has = let some = q.tables_valid.some in omega (arith, has, some)
+    table_below (Joins by left right) t has = let some = q.tables_valid.some in omega (arith, has, some)
+    table_below (Groups by child) t has = let some = q.tables_valid.some in omega (arith, has, some)
+
+    -- an operator in such a mode has its text once all modes were gone through
+    in_modes : (o : Physical) (t : ℕ) (m : Mode) → IsOperatorOf q o t m → IsOfOperator t o (named.Native o t m)
+    in_modes o t m form =
+        let has = has_number m (mode_small q few_lists (way_of o) t m form.has_mode) in
+        (number_in m, has.less, ap (λ x. named.Native x t m) (sym (first_same o form.over_none)) ∙ ap (named.Native (unplaced o) t) has.back)
+
+    operator_wanted : (o : Physical) (t : ℕ) (m : Mode) → IsOperatorOf q o t m → IsListed o → IsOfTable t (named.Native o t m)
+    operator_wanted o t m form (inl there) = inl (o, there, in_modes o t m form)
+    operator_wanted o t m form (inr (i, way, there)) =
+        let has : HasIndex q t i = subst (λ w. HasTable q w t) way form.has_table in
+        inr (i, (index_few t i has).1, (o, there, in_modes o t m form))
 
     -- each node that the query can name is wanted
     pub all_wanted : (node : Named) → HasForm q node → IsOfSome node
-    all_wanted (named.Scan t m) form =
-        inr (inr (inr (inr (t, form.0, inl (in_modes t physical.Scan m (read_small t m form.1))))))
-    all_wanted (named.IndexScan t i m) form =
-        let few = index_few t i form.0 in
-        inr (inr (inr (inr (
+    all_wanted (named.Native o t m) form =
+        inr (inr (
           t,
-          few.0,
-          inr (inr
-              (i, few.1, inl (in_modes t (physical.IndexScan i) m (read_small t m form.1)))),
-        ))))
-    all_wanted (named.Filter t m) form =
-        inr (inr (inr (inr (t, form.0, inr (inl (in_modes t (physical.Filter (Get 0)) m (only_small m form.1)))))))
-    all_wanted (named.IndexSeek t i m) form =
-        let few = index_few t i form.0 in
-        inr (inr (inr (inr (
-          t,
-          few.0,
-          inr (inr
-              (i, few.1, inr (in_modes t (physical.IndexSeek i) m (read_small t m form.1)))),
-        ))))
-    all_wanted (named.HashJoin m) form =
-        inr (inr (inl (inl (in_modes 0 (physical.HashJoin (Get 0) (Get 0)) m (hash_small m form)))))
-    all_wanted (named.MergeJoin m) form =
-        inr (inr (inl (inr (inl (in_modes 0 (physical.MergeJoin (Get 0) (Get 0)) m (merge_small m form))))))
-    all_wanted (named.LoopJoin m) form =
-        inr (inr (inl (inr (inr (in_modes 0 (physical.LoopJoin (Get 0) (Get 0)) m (loop_small m form))))))
-    all_wanted (named.HashAgg m) form =
-        inr (inr (inr (inl (inl (in_modes 0 (physical.HashAgg (Get 0)) m (agg_small m form))))))
-    all_wanted (named.StreamAgg m) form =
-        inr (inr (inr (inl (inr (inl (in_modes 0 (physical.StreamAgg (Get 0)) m (agg_small m form)))))))
-    all_wanted (named.PartialAgg m) form =
-        inr (inr (inr (inl (inr (inr (in_modes 0 (physical.PartialAgg (Get 0)) m (only_small m form)))))))
+          table_below (way_of o) t form.has_table,
+          operator_wanted o t m form (subst IsListed (first_same o form.over_none) (listed o)),
+        ))
     all_wanted (named.Enforcer e) form = enforcer_wanted e form
 
     -- so a list that was begun with none, and to which all of these were added, is whole

@@ -1,212 +1,141 @@
 -- No text of a node has an equals sign or a newline in it.
-use Rattle.std.proofs.Common.{◌≡◌, ℕ, zero, suc, ◌-◌, ◌/◌, ◌%◌, ◌<◌, Bool, true, false, List, [], ◌∷◌, ◌++◌, Option, Some, None, refl}
-use Rattle.std.proofs.Common.{arith, decimal, length}
-use Rattle.std.specs.Prelude.{codes, slice_get, ◌==◌, flat_map, if◌then◌else◌}
-use Rattle.std.specs.Char.{is_ascii_digit}
-use Rattle.std.specs.List.{list_all}
-use Rattle.std.specs.Option.{option_map_or}
-use Rattle.std.specs.Fmt.{digits, digits_onto, digit_glyph}
-use Rattle.std.proofs.lemmas.Bool.{and_parts, and_from, lt-ltb}
-use Rattle.std.proofs.lemmas.Bool.Decides.{nat_tests}
-use Rattle.std.proofs.lemmas.List.Folds.{list_all-append}
-use Rattle.orca_base.specs.Name.{continues_name, has_name_form}
-use Rattle.query_core.specs.declared.aggregate.Agg.{Agg}
+use Rattle.std.proofs.Common.{ℕ, Bool, true, false, List, [], ◌++◌, Option, Some, None, IfSome, refl, decimal}
+use Rattle.std.specs.Prelude.{codes, ◌==◌, if◌then◌else◌}
+use Rattle.std.specs.Option.{option_map}
 use Rattle.query_core.specs.declared.query.Query.{Query}
-use Rattle.query_core.specs.declared.table.Item.{Item}
-use Rattle.query_core.specs.declared.table.QueryTable.{QueryTable}
+use Rattle.query_core.specs.declared.expressions.Access.{Access}
+use Rattle.query_core.specs.declared.expressions.Access.TheVariants.{Direct, Index}
 use Rattle.request_props.specs.Numbered.{list_of, order_of}
-use Rattle.query_text.specs.Columns.{table_text, item_text, column_text, sorted_text, aggregate_name_at, name_text}
-use Rattle.query_text.specs.Lists.{element_text, order_text, list_text, other_elements_text, other_columns_text}
+use Rattle.query_text.specs.Columns.{table_text}
+use Rattle.query_text.specs.Lists.{order_text, list_text}
+use Rattle.query_text.specs.Names.{physical_name}
 use Rattle.plan_space.specs.Lines.{is_replicated}
+use Rattle.plan_space.specs.Ways.{way_of}
 use Rattle.plan_space.specs.declared.modes.Mode.{Mode}
 use Rattle.plan_space.specs.declared.modes.Mode.TheVariants as modes
+use Rattle.plan_space.specs.declared.nodes.Enforcer.{Enforcer}
 use Rattle.plan_space.specs.declared.nodes.Enforcer.TheVariants as enforcers
-use Rattle.plan_lines.specs.Text.{hash_mode_text, merge_mode_text, loop_mode_text, agg_mode_text, index_text, read_text}
+use Rattle.plan_space.specs.declared.ways.Kept.{Kept}
+use Rattle.plan_space.specs.declared.ways.Kept.TheVariants.{Rows, SpreadRows}
+use Rattle.plan_space.specs.declared.ways.JoinBy.{JoinBy}
+use Rattle.plan_space.specs.declared.ways.JoinBy.TheVariants as joins
+use Rattle.plan_space.specs.declared.ways.Way.{Way}
+use Rattle.plan_space.specs.declared.ways.Way.TheVariants.{Reads, Passes, Joins, Groups}
+use Rattle.plan_lines.specs.Text.{hash_mode_text, merge_mode_text, loop_mode_text, join_mode_text, agg_mode_text}
+use Rattle.plan_lines.specs.Text.{only_mode_text, read_mode_text, bracketed, place_text, kept_text, behind_name}
+use Rattle.plan_lines.specs.Text.{operator_text, enforcer_text, text_if_any}
 use Rattle.plan_reading.specs.Named.{named_text}
-use Rattle.plan_reading.specs.Reading.{is_bare}
 use Rattle.plan_reading.specs.declared.named.Named.{Named}
 use Rattle.plan_reading.specs.declared.named.Named.TheVariants as named
-use Rattle.plan_reading.proofs.Places.{passed_at}
-use Rattle.plan_reading.proofs.Columns.{name_continues}
-use Rattle.plan_reading.proofs.AggregateNames.{agg_named}
-
-abbrev pub IsBare : List ℕ → Type 0
-IsBare text = list_all is_bare text ≡ true
-
-pub bare_append : (xs ys : List ℕ) → IsBare xs → IsBare ys → IsBare (xs ++ ys)
-bare_append xs ys in_xs in_ys = rw (list_all-append is_bare xs ys, in_xs, in_ys) refl
-
-pub weaker : (p r : ℕ → Bool) → ((b : ℕ) → p b ≡ true → r b ≡ true) → (xs : List ℕ) → list_all p xs ≡ true → list_all r xs ≡ true
-weaker p r goes [] all = refl
-weaker p r goes (x ∷ xs) all = let parts = and_parts (p x) (list_all p xs) all in
-    and_from (r x) (list_all r xs) (goes x parts.0) (weaker p r goes xs parts.1)
-
-name_byte_bare : (b : ℕ) → continues_name b ≡ true → is_bare b ≡ true
-name_byte_bare b h = grind (arith, nat_tests)
-
-pub name_bare : (text : List ℕ) → has_name_form text ≡ true → IsBare text
-name_bare text h = weaker continues_name is_bare name_byte_bare text (name_continues text h)
-
-digit_bare : (b : ℕ) → is_ascii_digit b ≡ true → is_bare b ≡ true
-digit_bare b h = grind (arith, nat_tests)
-
-glyph_digit : (n : ℕ) → is_ascii_digit (digit_glyph false (n % 10)) ≡ true
-glyph_digit n = let small : n % 10 < 10 = omega arith in rw (lt-ltb (n % 10) 10 small) (grind (arith, nat_tests))
-
-either : (b : Bool) (xs ys : List ℕ) → list_all is_ascii_digit xs ≡ true → list_all is_ascii_digit ys ≡ true
-    → list_all is_ascii_digit (if b then xs else ys) ≡ true
-either true xs ys in_xs in_ys = in_xs
-either false xs ys in_xs in_ys = in_ys
-
-onto_digits : (k n : ℕ) (acc : List ℕ) → list_all is_ascii_digit acc ≡ true
-    → list_all is_ascii_digit (digits_onto k 10 false n acc) ≡ true
-onto_digits zero n acc all = all
-onto_digits (suc k) n acc all =
-    let here = and_from (is_ascii_digit (digit_glyph false (n % 10))) (list_all is_ascii_digit acc) (glyph_digit n) all in
-    either (n / 10 == 0) (digit_glyph false (n % 10) ∷ acc) (digits_onto k 10 false (n / 10) (digit_glyph false (n % 10) ∷ acc))
-    here (onto_digits k (n / 10) (digit_glyph false (n % 10) ∷ acc) here)
-
--- what is written for any number is digits
-pub decimal_digits : (n : ℕ) → list_all is_ascii_digit (decimal n) ≡ true
-unfolding digits
-decimal_digits n = onto_digits 64 n [] refl
-
-pub decimal_bare : (n : ℕ) → IsBare (decimal n)
-decimal_bare n = weaker is_ascii_digit is_bare digit_bare (decimal n) (decimal_digits n)
-
--- ---- tables, columns, aggregates
+use Rattle.plan_reading.proofs.BareWords.{IsBare, bare_append, decimal_bare, table_bare, list_bare, order_bare}
+use Rattle.plan_reading.proofs.OperatorRows.{is_name}
 
 module _ (q : Query) where
-  table_bare : (t : ℕ) → IsBare (table_text q t)
-  table_bare t = by_table (slice_get q.tables t) refl
-    where
-      by_table : (o : Option QueryTable) → slice_get q.tables t ≡ o → IsBare (option_map_or (λ x. x.alias) o [])
-      by_table None is = refl
-      by_table (Some table) is =
-          name_bare table.alias (passed_at (λ x. has_name_form x.alias) q.tables t table q.tables_valid.named is)
+  -- a word, and behind it what is bare
+  and_bare : (word rest : List ℕ) → IsBare word → IsBare rest → IsBare (word ++ rest)
+  and_bare word rest in_word in_rest = bare_append word rest in_word in_rest
 
-  item_bare : (n : ℕ) (item : Item) → slice_get q.items n ≡ Some item → IsBare (item_text q item)
-  item_bare n item got =
-      bare_append (table_text q item.table ++ codes ".") item.name
-      (bare_append (table_text q item.table) (codes ".") (table_bare item.table) refl)
-      (name_bare item.name (passed_at (λ x. has_name_form x.name) q.items n item q.items_valid.named got))
+  -- in brackets
+  bracketed_bare : (inner : List ℕ) → IsBare inner → IsBare (bracketed inner)
+  bracketed_bare inner in_inner = bare_append (codes "(" ++ inner) (codes ")") (bare_append (codes "(") inner refl in_inner) refl
 
-  column_bare : (n : ℕ) → IsBare (column_text q n)
-  column_bare n = by_item (slice_get q.items n) refl
-    where
-      by_item : (o : Option Item) → slice_get q.items n ≡ o → IsBare (option_map_or (item_text q) o [])
-      by_item None is = refl
-      by_item (Some item) is = item_bare n item is
+  -- each text that is there is bare
+  abbrev IsBareIfAny : Option (List ℕ) → Type 0
+  IsBareIfAny text = IfSome text IsBare
 
-  aggregate_bare : (p : ℕ) → IsBare (aggregate_name_at q p)
-  aggregate_bare p = by_agg (slice_get q.aggs p) refl
-    where
-      by_name : (agg : Agg) (o : Option (List ℕ)) → slice_get q.aggs p ≡ Some agg → agg.name ≡ o → IsBare (name_text o)
-      by_name agg None got is = refl
-      by_name agg (Some name) got is = name_bare name (agg_named q.aggs p agg name q.grouping_valid.named got is)
+  tested_bare : (test : Bool) (text : List ℕ) → IsBare text → IsBareIfAny (if test then Some text else None)
+  tested_bare true text bare = bare
+  tested_bare false text bare = tt
 
-      by_agg : (o : Option Agg) → slice_get q.aggs p ≡ o → IsBare (option_map_or (λ agg. name_text agg.name) o [])
-      by_agg None is = refl
-      by_agg (Some agg) is = by_name agg agg.name is refl
+  mapped_bare : (f : List ℕ → List ℕ) (text : Option (List ℕ)) → ((t : List ℕ) → IsBare t → IsBare (f t)) → IsBareIfAny text
+      → IsBareIfAny (option_map f text)
+  mapped_bare f None keeps bare = tt
+  mapped_bare f (Some text) keeps bare = keeps text bare
 
-  sorted_bare : (n : ℕ) → IsBare (sorted_text q n)
-  sorted_bare n = by_item (slice_get q.items n) refl
-    where
-      by_item : (o : Option Item) → slice_get q.items n ≡ o
-          → IsBare (option_map_or (item_text q) o (aggregate_name_at q (n - length q.items)))
-      by_item None is = aggregate_bare (n - length q.items)
-      by_item (Some item) is = item_bare n item is
+  equality_bare : (word : List ℕ) (n : ℕ) → IsBare word → IsBare (word ++ decimal n)
+  equality_bare word n in_word = bare_append word (decimal n) in_word (decimal_bare n)
 
-  -- ---- lists and orders
+  hash_bare : (m : Mode) → IsBareIfAny (hash_mode_text m)
+  hash_bare (modes.Plain n) = tested_bare (n == 0) (codes "one") refl
+  hash_bare (modes.Copied n) = tested_bare (n == 0) (codes "copied") refl
+  hash_bare (modes.Hashed n) = equality_bare (codes "colocated p") n refl
 
-  others_bare : (text : ℕ → List ℕ) → ((n : ℕ) → IsBare (text n)) → (xs : List ℕ)
-      → IsBare (flat_map (λ x. codes ", " ++ text x) xs)
-  others_bare text bare [] = refl
-  others_bare text bare (x ∷ xs) = bare_append (codes ", " ++ text x) (flat_map (λ x. codes ", " ++ text x) xs)
-      (bare_append (codes ", ") (text x) refl (bare x)) (others_bare text bare xs)
+  merge_bare : (m : Mode) → IsBareIfAny (merge_mode_text m)
+  merge_bare (modes.Plain n) = equality_bare (codes "one p") n refl
+  merge_bare (modes.Copied n) = equality_bare (codes "copied p") n refl
+  merge_bare (modes.Hashed n) = equality_bare (codes "colocated p") n refl
 
-  list_bare : (xs : List ℕ) → IsBare (list_text q xs)
-  list_bare [] = refl
-  list_bare (x ∷ xs) = bare_append (column_text q x) (other_columns_text q xs) (column_bare x)
-      (others_bare (column_text q) column_bare xs)
+  loop_bare : (m : Mode) → IsBareIfAny (loop_mode_text m)
+  loop_bare (modes.Plain n) = tested_bare (n == 0) (codes "one") refl
+  loop_bare (modes.Copied n) = tested_bare (n == 0) (codes "copied") refl
+  loop_bare (modes.Hashed n) = tt
 
-  mark_bare : (rises : Bool) → IsBare (if rises then [] else codes " DESC")
-  mark_bare true = refl
-  mark_bare false = refl
+  join_bare : (by : JoinBy) (m : Mode) → IsBareIfAny (join_mode_text by m)
+  join_bare joins.Hashing m = hash_bare m
+  join_bare joins.Merging m = merge_bare m
+  join_bare joins.Looping m = loop_bare m
 
-  element_bare : (e : ℕ) → IsBare (element_text q e)
-  element_bare e = bare_append (sorted_text q (e / 2)) (if e % 2 == 0 then [] else codes " DESC") (sorted_bare (e / 2))
-      (mark_bare (e % 2 == 0))
+  agg_bare : (m : Mode) → IsBareIfAny (agg_mode_text q m)
+  agg_bare (modes.Plain n) = tested_bare (n == 0) (codes "one") refl
+  agg_bare (modes.Copied n) = tt
+  agg_bare (modes.Hashed n) = and_bare (codes "hashed ") (list_text q (list_of q n)) refl (list_bare q (list_of q n))
 
-  order_bare : (xs : List ℕ) → IsBare (order_text q xs)
-  order_bare [] = refl
-  order_bare (x ∷ xs) = bare_append (element_text q x) (other_elements_text q xs) (element_bare x)
-      (others_bare (element_text q) element_bare xs)
+  only_bare : (text : List ℕ) (m : Mode) → IsBare text → IsBareIfAny (only_mode_text text m)
+  only_bare text (modes.Plain n) bare = tested_bare (n == 0) text bare
+  only_bare text (modes.Copied n) bare = tt
+  only_bare text (modes.Hashed n) bare = tt
 
-  -- ---- nodes
+  replica_bare : (own one copies : Bool)
+      → IsBareIfAny (if own then Some (codes " own") else if one then Some (codes " one")
+      else if copies then Some (codes " copies") else None)
+  replica_bare true one copies = refl
+  replica_bare false true copies = refl
+  replica_bare false false true = refl
+  replica_bare false false false = tt
 
-  -- in brackets behind a word
-  bracketed : (word inner : List ℕ) → IsBare word → IsBare inner → IsBare (word ++ inner ++ codes ")")
-  bracketed word inner in_word in_inner = bare_append (word ++ inner) (codes ")") (bare_append word inner in_word in_inner) refl
+  several_bare : (several : Bool) (n : ℕ) → IsBareIfAny (read_mode_text several (modes.Plain n))
+  several_bare true n = replica_bare (n == 0) (n == 1) (n == 2)
+  several_bare false n = tested_bare (n == 0) [] refl
 
-  pred_bare : (word : List ℕ) (n : ℕ) → IsBare word → IsBare (word ++ decimal n)
-  pred_bare word n in_word = bare_append word (decimal n) in_word (decimal_bare n)
+  read_bare : (several : Bool) (m : Mode) → IsBareIfAny (read_mode_text several m)
+  read_bare several (modes.Plain n) = several_bare several n
+  read_bare several (modes.Copied n) = tt
+  read_bare several (modes.Hashed n) = tt
 
-  index_bare : (t i : ℕ) → IsBare (index_text q t i)
-  index_bare t i = bare_append (table_text q t ++ codes ", i") (decimal i)
-      (bare_append (table_text q t) (codes ", i") (table_bare t) refl) (decimal_bare i)
+  place_bare : (t : ℕ) (access : Access) → IsBare (place_text q t access)
+  place_bare t Direct = table_bare q t
+  place_bare t (Index i) = bare_append (table_text q t ++ codes ", i") (decimal i)
+      (bare_append (table_text q t) (codes ", i") (table_bare q t) refl) (decimal_bare i)
 
-  read_bare : (t : ℕ) (m : Mode) → IsBare (read_text q t m)
-  read_bare t (modes.Plain n) = by_ways (is_replicated q t) (n == 0) (n == 1)
-    where
-      by_ways : (several own one : Bool)
-          → IsBare (if several then (if own then codes " own" else if one then codes " one" else codes " copies") else [])
-      by_ways true true one = refl
-      by_ways true false true = refl
-      by_ways true false false = refl
-      by_ways false own one = refl
-  read_bare t (modes.Copied n) = refl
-  read_bare t (modes.Hashed n) = refl
+  kept_bare : (t : ℕ) (kept : Kept) → IsBare (kept_text q t kept)
+  kept_bare t Rows = bracketed_bare (table_text q t) (table_bare q t)
+  kept_bare t SpreadRows = refl
 
-  hash_bare : (m : Mode) → IsBare (hash_mode_text m)
-  hash_bare (modes.Plain n) = refl
-  hash_bare (modes.Copied n) = refl
-  hash_bare (modes.Hashed n) = pred_bare (codes "colocated p") n refl
+  behind_bare : (way : Way) (t : ℕ) (m : Mode) → IsBareIfAny (behind_name q way t m)
+  behind_bare (Reads access) t m = mapped_bare (λ read. bracketed (place_text q t access ++ read))
+      (read_mode_text (is_replicated q t) m)
+      (λ read bare. bracketed_bare (place_text q t access ++ read) (and_bare (place_text q t access) read (place_bare t access) bare))
+      (read_bare (is_replicated q t) m)
+  behind_bare (Passes kept child) t m = only_bare (kept_text q t kept) m (kept_bare t kept)
+  behind_bare (Joins by left right) t m = mapped_bare bracketed (join_mode_text by m) bracketed_bare (join_bare by m)
+  behind_bare (Groups by child) t m = mapped_bare bracketed (agg_mode_text q m) bracketed_bare (agg_bare m)
 
-  merge_bare : (m : Mode) → IsBare (merge_mode_text m)
-  merge_bare (modes.Plain n) = pred_bare (codes "one p") n refl
-  merge_bare (modes.Copied n) = pred_bare (codes "copied p") n refl
-  merge_bare (modes.Hashed n) = pred_bare (codes "colocated p") n refl
+  if_any_bare : (text : Option (List ℕ)) → IsBareIfAny text → IsBare (text_if_any text)
+  if_any_bare None bare = refl
+  if_any_bare (Some text) bare = bare
 
-  loop_bare : (m : Mode) → IsBare (loop_mode_text m)
-  loop_bare (modes.Plain n) = refl
-  loop_bare (modes.Copied n) = refl
-  loop_bare (modes.Hashed n) = refl
-
-  agg_bare : (m : Mode) → IsBare (agg_mode_text q m)
-  agg_bare (modes.Plain n) = refl
-  agg_bare (modes.Copied n) = refl
-  agg_bare (modes.Hashed n) = bare_append (codes "hashed ") (list_text q (list_of q n)) refl (list_bare (list_of q n))
+  enforcer_bare : (e : Enforcer) → IsBare (enforcer_text q e)
+  enforcer_bare enforcers.Gather = refl
+  enforcer_bare enforcers.Broadcast = refl
+  enforcer_bare (enforcers.Sort o) = and_bare (codes "Sort(" ++ order_text q (order_of q o)) (codes ")")
+      (and_bare (codes "Sort(") (order_text q (order_of q o)) refl (order_bare q (order_of q o))) refl
+  enforcer_bare (enforcers.GatherMerge o) = and_bare (codes "GatherMerge(" ++ order_text q (order_of q o)) (codes ")")
+      (and_bare (codes "GatherMerge(") (order_text q (order_of q o)) refl (order_bare q (order_of q o))) refl
+  enforcer_bare (enforcers.Redistribute h) = and_bare (codes "Redistribute(" ++ list_text q (list_of q h)) (codes ")")
+      (and_bare (codes "Redistribute(") (list_text q (list_of q h)) refl (list_bare q (list_of q h))) refl
 
   pub named_bare : (n : Named) → IsBare (named_text q n)
-  named_bare (named.Scan t m) = bracketed (codes "Scan(") (table_text q t ++ read_text q t m) refl
-      (bare_append (table_text q t) (read_text q t m) (table_bare t) (read_bare t m))
-  named_bare (named.IndexScan t i m) = bracketed (codes "IndexScan(") (index_text q t i ++ read_text q t m) refl
-      (bare_append (index_text q t i) (read_text q t m) (index_bare t i) (read_bare t m))
-  named_bare (named.Filter t m) = bracketed (codes "Filter(") (table_text q t) refl (table_bare t)
-  named_bare (named.IndexSeek t i m) = bracketed (codes "IndexSeek(") (index_text q t i ++ read_text q t m) refl
-      (bare_append (index_text q t i) (read_text q t m) (index_bare t i) (read_bare t m))
-  named_bare (named.HashJoin m) = bracketed (codes "HashJoin(") (hash_mode_text m) refl (hash_bare m)
-  named_bare (named.MergeJoin m) = bracketed (codes "MergeJoin(") (merge_mode_text m) refl (merge_bare m)
-  named_bare (named.LoopJoin m) = bracketed (codes "LoopJoin(") (loop_mode_text m) refl (loop_bare m)
-  named_bare (named.HashAgg m) = bracketed (codes "HashAgg(") (agg_mode_text q m) refl (agg_bare m)
-  named_bare (named.StreamAgg m) = bracketed (codes "StreamAgg(") (agg_mode_text q m) refl (agg_bare m)
-  named_bare (named.PartialAgg m) = refl
-  named_bare (named.Enforcer enforcers.Gather) = refl
-  named_bare (named.Enforcer enforcers.Broadcast) = refl
-  named_bare (named.Enforcer (enforcers.Sort o)) =
-      bracketed (codes "Sort(") (order_text q (order_of q o)) refl (order_bare (order_of q o))
-  named_bare (named.Enforcer (enforcers.GatherMerge o)) =
-      bracketed (codes "GatherMerge(") (order_text q (order_of q o)) refl (order_bare (order_of q o))
-  named_bare (named.Enforcer (enforcers.Redistribute h)) =
-      bracketed (codes "Redistribute(") (list_text q (list_of q h)) refl (list_bare (list_of q h))
+  named_bare (named.Native o t m) = if_any_bare (operator_text q o t m)
+      (mapped_bare (λ behind. physical_name o ++ behind) (behind_name q (way_of o) t m)
+      (λ behind bare. bare_append (physical_name o) behind (is_name o).bare bare) (behind_bare (way_of o) t m))
+  named_bare (named.Enforcer e) = enforcer_bare e

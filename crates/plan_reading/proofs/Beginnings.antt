@@ -16,7 +16,7 @@ use Rattle.plan_reading.proofs.Bare.{named_bare}
 use Rattle.plan_reading.proofs.Cuts.{cut_once}
 use Rattle.plan_reading.proofs.Ended.{before_end, inner_line, line_and, cut_same, cost_cut}
 use Rattle.plan_reading.proofs.LineTexts.{names_one, numbers_one}
-use Rattle.plan_reading.proofs.Sections.{flush}
+use Rattle.plan_reading.proofs.Flush.{flush}
 
 -- a line of these parts
 abbrev made : ℕ → Named → ℕ → ℕ → NodeLine

@@ -15,7 +15,8 @@ use Rattle.plan_reading.specs.Lines.{line_text}
 use Rattle.plan_reading.specs.Reading.{is_bare, is_inner, IsCutAt}
 use Rattle.plan_reading.specs.Formed.{HasCost}
 use Rattle.plan_reading.specs.declared.line.NodeLine.{NodeLine}
-use Rattle.plan_reading.proofs.Bare.{IsBare, weaker, decimal_bare, named_bare}
+use Rattle.plan_reading.proofs.Bare.{named_bare}
+use Rattle.plan_reading.proofs.BareWords.{IsBare, weaker, decimal_bare}
 use Rattle.plan_reading.proofs.Cuts.{cut_once}
 use Rattle.plan_reading.proofs.LineTexts.{unended, indent_bare}
 

@@ -1,36 +1,39 @@
 -- A node of the query is one that the query can name.
-use Rattle.std.proofs.Common.{◌≡◌, ℕ, ◌<◌, Bool, true, false, List, length, Option, Some, None, refl, sym, ap, subst}
+use Rattle.std.proofs.Common.{◌≡◌, ℕ, ◌<◌, Bool, true, false, List, length, Option, Some, None, refl}
 use Rattle.std.specs.Prelude.{◌==◌, if◌then◌else◌, nat_lt, slice_get}
 use Rattle.std.specs.Option.{IsSome, option_map}
 use Rattle.std.proofs.lemmas.Bool.{eqb-true, ltb-true}
 use Rattle.query_core.specs.Crossing.{crossing_of, crossing_at}
-use Rattle.query_core.specs.Keys.{IsGroup}
 use Rattle.query_core.specs.Expressions.{table_in}
 use Rattle.query_core.specs.declared.predicate.Pred.{Pred}
 use Rattle.query_core.specs.declared.query.Query.{Query}
 use Rattle.query_core.specs.declared.words.KeyParts.{KeyParts}
-use Rattle.query_core.specs.declared.words.KeyParts.TheVariants as groups
 use Rattle.query_core.specs.declared.expressions.Physical.{Physical}
-use Rattle.query_core.specs.declared.expressions.Physical.TheVariants as physical
 use Rattle.request_props.specs.Numbered.{lists_of}
 use Rattle.plan_space.specs.Modes.{mode_at}
 use Rattle.request_props.specs.declared.given.GivenDist.{GivenDist}
 use Rattle.request_props.specs.declared.given.GivenOrder.{GivenOrder}
-use Rattle.request_props.specs.declared.given.GivenOrder.TheVariants.{Listed, Index}
 use Rattle.plan_space.specs.Lines.{only_line, single_line, hash_line, merge_line, loop_line, agg_line, in_order}
-use Rattle.plan_space.specs.Lines.{dists_of_table, table_line}
+use Rattle.plan_space.specs.Lines.{dists_of_table, table_line, join_line, way_line, order_read, kept_line, grouped_order}
+use Rattle.plan_space.specs.Ways.{way_of}
 use Rattle.plan_space.specs.declared.lines.Line.TheVariants.{Above}
 use Rattle.plan_space.specs.declared.lines.LeftDist.TheVariants as left_dists
 use Rattle.plan_space.specs.declared.lines.Line.{Line}
 use Rattle.plan_space.specs.declared.modes.Mode.{Mode}
 use Rattle.plan_space.specs.declared.modes.Mode.TheVariants as modes
+use Rattle.plan_space.specs.declared.ways.JoinBy.{JoinBy}
+use Rattle.plan_space.specs.declared.ways.JoinBy.TheVariants as joins
+use Rattle.plan_space.specs.declared.ways.Way.{Way}
+use Rattle.plan_space.specs.declared.ways.Way.TheVariants.{Reads, Passes, Joins, Groups}
 use Rattle.plan_space.specs.declared.nodes.NodeKind.{NodeKind}
 use Rattle.plan_space.specs.declared.nodes.NodeKind.TheVariants as nodes
 use Rattle.plan_check.specs.Nodes.{IsKindOf, IsNativeOf}
-use Rattle.plan_reading.specs.Named.{named_of, named_operator, HasForm, HasOnlyForm, HasReadForm, HasHashForm}
-use Rattle.plan_reading.specs.Named.{HasMergeForm, HasLoopForm, HasAggForm}
+use Rattle.plan_reading.specs.Named.{named_of, HasForm, IsOperatorOf, HasModeForm, HasOnlyForm, HasReadForm}
+use Rattle.plan_reading.specs.Named.{HasHashForm, HasMergeForm, HasLoopForm, HasJoinForm, HasAggForm}
+use Rattle.plan_reading.specs.Operators.{unplaced}
+use Rattle.plan_reading.proofs.OperatorRows.{unplaced_first, unplaced_mode, group_table}
 use Rattle.plan_reading.proofs.Places.{below_got}
-use Rattle.plan_reading.proofs.NodeOver.{expr}
+use Rattle.plan_reading.proofs.SameNodes.{expr}
 
 only_zero : (line : Line) (n : ℕ) → IsSome (only_line line n) → n ≡ 0
 only_zero line n is = by_test (n == 0) refl is
@@ -92,26 +95,25 @@ module _ (q : Query) where
   agg_form order (modes.Hashed n) is =
       some_below n (length (lists_of q)) (Above (left_dists.Grouped n) (in_order order)) (nat_lt n (length (lists_of q))) refl is
 
+  join_form : (by : JoinBy) (l r : KeyParts) (mode : Mode) → IsSome (join_line q by l r mode) → HasJoinForm q by mode
+  join_form joins.Hashing l r mode is = hash_form l r mode is
+  join_form joins.Merging l r mode is = merge_form l r mode is
+  join_form joins.Looping l r mode is = loop_form mode is
+
+  mode_form : (g : KeyParts) (way : Way) (mode : Mode) → IsSome (way_line q g way mode)
+      → HasModeForm q way (table_in g) mode
+  mode_form g (Reads access) mode is = read_form g (order_read g access) mode is
+  mode_form g (Passes kept child) mode is = only_form (kept_line kept) mode is
+  mode_form g (Joins by l r) mode is = join_form by l r mode is
+  mode_form g (Groups by child) mode is = agg_form (grouped_order q by) mode is
+
   native_form : (g : KeyParts) (o : Physical) (m : ℕ) → IsNativeOf q (expr g o) m
-      → HasForm q (named_operator o (table_in g) (mode_at m))
-  native_form g physical.Scan m is =
-      let s = is.candidate.shape.0 in
-      let known : s.0 < length q.tables = subst (IsGroup q) s.1 is.candidate.known in
-      (subst (λ t. t < length q.tables) (sym (ap table_in s.1)) known, read_form g (Listed 0) (mode_at m) is.has_line)
-  native_form g (physical.IndexScan i) m is =
-      (is.candidate.shape.1, read_form g (Index (table_in g) i) (mode_at m) is.has_line)
-  native_form g (physical.Filter c) m is =
-      let s = is.candidate.shape.0 in
-      let known : IsGroup q (groups.Filter s.0) = subst (IsGroup q) s.1 is.candidate.known in
-      (subst (λ t. t < length q.tables) (sym (ap table_in s.1)) known.0, only_form _ (mode_at m) is.has_line)
-  native_form g (physical.IndexSeek i) m is =
-      (is.candidate.shape.1, read_form g (Index (table_in g) i) (mode_at m) is.has_line)
-  native_form g (physical.HashJoin l r) m is = hash_form l r (mode_at m) is.has_line
-  native_form g (physical.MergeJoin l r) m is = merge_form l r (mode_at m) is.has_line
-  native_form g (physical.LoopJoin l r) m is = loop_form (mode_at m) is.has_line
-  native_form g (physical.HashAgg c) m is = agg_form _ (mode_at m) is.has_line
-  native_form g (physical.StreamAgg c) m is = agg_form _ (mode_at m) is.has_line
-  native_form g (physical.PartialAgg c) m is = only_form _ (mode_at m) is.has_line
+      → IsOperatorOf q (unplaced o) (table_in g) (mode_at m)
+  native_form g o m is = record {
+    over_none = unplaced_first o;
+    has_table = group_table q g o is.candidate.known is.candidate.shape;
+    has_mode = unplaced_mode q o (table_in g) (mode_at m) (mode_form g (way_of o) (mode_at m) is.has_line);
+  }
 
   pub known_form : (node : NodeKind) → IsKindOf q node → HasForm q (named_of node)
   known_form (nodes.Native e m) is = native_form e.group e.operator m is

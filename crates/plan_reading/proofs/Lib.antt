@@ -7,10 +7,16 @@ mod Sorted
 mod Joined
 mod Elements
 mod Lists
+mod SameNodes
 mod Marks
+mod OperatorRows
+mod Behind
+mod Flush
+mod SmallModes
 mod ReadTexts
 mod Nodes
 mod OneTree
+mod BareWords
 mod Bare
 mod LineTexts
 mod Formed
@@ -23,7 +29,6 @@ mod WrittenNumbers
 mod Forests
 mod NodeOver
 mod AllTexts
-mod Indexes
 mod Ended
 mod Ways
 mod Beginnings

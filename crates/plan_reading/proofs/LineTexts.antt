@@ -12,7 +12,7 @@ use Rattle.plan_reading.proofs.Fronts.{EndsFront}
 use Rattle.plan_lines.specs.Text.{indent}
 use Rattle.plan_reading.proofs.Cuts.{cut_once}
 use Rattle.plan_reading.specs.Reading.{is_bare, is_space}
-use Rattle.plan_reading.proofs.Bare.{IsBare, bare_append, decimal_digits}
+use Rattle.plan_reading.proofs.BareWords.{IsBare, bare_append, decimal_digits}
 
 -- ---- spaces
 

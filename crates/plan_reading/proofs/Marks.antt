@@ -1,61 +1,75 @@
--- Which kind of node a text begins with.
+-- Which kind of node a text begins with, and which kind of way a node works in.
 use Rattle.std.proofs.Common.{◌≡◌, ℕ, ◌≤◌, List, get_or, refl, arith}
 use Rattle.std.specs.Prelude.{◌==◌, if◌then◌else◌}
 use Rattle.query_core.specs.declared.query.Query.{Query}
+use Rattle.query_core.specs.declared.expressions.Access.TheVariants.{Direct, Index}
 use Rattle.plan_space.specs.declared.nodes.Enforcer.{Enforcer}
 use Rattle.plan_space.specs.declared.nodes.Enforcer.TheVariants as enforcers
-use Rattle.plan_reading.specs.Named.{named_text}
-use Rattle.plan_reading.specs.declared.named.Named.{Named}
-use Rattle.plan_reading.specs.declared.named.Named.TheVariants as named
+use Rattle.plan_space.specs.declared.ways.Kept.TheVariants.{Rows, SpreadRows}
+use Rattle.plan_space.specs.declared.ways.JoinBy.TheVariants.{Hashing, Merging, Looping}
+use Rattle.plan_space.specs.declared.ways.Way.{Way}
+use Rattle.plan_space.specs.declared.ways.Way.TheVariants.{Reads, Passes, Joins, Groups}
+use Rattle.plan_lines.specs.Text.{enforcer_text}
 
-abbrev pub kind_of : Named → ℕ
-kind_of (named.Scan table mode) = 0
-kind_of (named.IndexScan table index mode) = 1
-kind_of (named.Filter table mode) = 2
-kind_of (named.IndexSeek table index mode) = 3
-kind_of (named.HashJoin mode) = 4
-kind_of (named.MergeJoin mode) = 5
-kind_of (named.LoopJoin mode) = 6
-kind_of (named.HashAgg mode) = 7
-kind_of (named.StreamAgg mode) = 8
-kind_of (named.PartialAgg mode) = 9
-kind_of (named.Enforcer enforcers.Gather) = 10
-kind_of (named.Enforcer enforcers.Broadcast) = 11
-kind_of (named.Enforcer (enforcers.Sort order)) = 12
-kind_of (named.Enforcer (enforcers.GatherMerge order)) = 13
-kind_of (named.Enforcer (enforcers.Redistribute list)) = 14
+-- ---- texts
+
+-- operators have their numbers, and enforcers have these
+abbrev pub enforcer_kind : Enforcer → ℕ
+enforcer_kind enforcers.Gather = 20
+enforcer_kind enforcers.Broadcast = 21
+enforcer_kind (enforcers.Sort order) = 22
+enforcer_kind (enforcers.GatherMerge order) = 23
+enforcer_kind (enforcers.Redistribute list) = 24
 
 -- the kind by four bytes
 abbrev pub kind_in : List ℕ → ℕ
 kind_in text =
-    if get_or text 0 0 == 83 then (if get_or text 1 0 == 99 then 0 else if get_or text 1 0 == 116 then 8 else 12)
-    else if get_or text 0 0 == 73 then (if get_or text 6 0 == 99 then 1 else 3)
-    else if get_or text 0 0 == 70 then 2
-    else if get_or text 0 0 == 72 then (if get_or text 4 0 == 74 then 4 else 7)
-    else if get_or text 0 0 == 77 then 5
-    else if get_or text 0 0 == 76 then 6
-    else if get_or text 0 0 == 80 then 9
-    else if get_or text 0 0 == 71 then (if get_or text 6 0 == 77 then 13 else 10)
-    else if get_or text 0 0 == 66 then 11
-    else 14
+    if get_or text 0 0 == 83 then (if get_or text 1 0 == 99 then 2 else if get_or text 1 0 == 116 then 14 else 22)
+    else if get_or text 0 0 == 73 then (if get_or text 6 0 == 99 then 3 else 6)
+    else if get_or text 0 0 == 70 then 5
+    else if get_or text 0 0 == 72 then (if get_or text 4 0 == 74 then 9 else 13)
+    else if get_or text 0 0 == 77 then 10
+    else if get_or text 0 0 == 76 then 11
+    else if get_or text 0 0 == 80 then 16
+    else if get_or text 0 0 == 71 then (if get_or text 6 0 == 77 then 23 else 20)
+    else if get_or text 0 0 == 66 then 21
+    else 24
 
--- a text begins with its kind
-pub kind_read : (q : Query) (n : Named) → kind_in (named_text q n) ≡ kind_of n
-kind_read q (named.Scan table mode) = refl
-kind_read q (named.IndexScan table index mode) = refl
-kind_read q (named.Filter table mode) = refl
-kind_read q (named.IndexSeek table index mode) = refl
-kind_read q (named.HashJoin mode) = refl
-kind_read q (named.MergeJoin mode) = refl
-kind_read q (named.LoopJoin mode) = refl
-kind_read q (named.HashAgg mode) = refl
-kind_read q (named.StreamAgg mode) = refl
-kind_read q (named.PartialAgg mode) = refl
-kind_read q (named.Enforcer enforcers.Gather) = refl
-kind_read q (named.Enforcer enforcers.Broadcast) = refl
-kind_read q (named.Enforcer (enforcers.Sort order)) = refl
-kind_read q (named.Enforcer (enforcers.GatherMerge order)) = refl
-kind_read q (named.Enforcer (enforcers.Redistribute list)) = refl
+-- an enforcer's text begins with its kind
+pub enforcer_read : (q : Query) (e : Enforcer) → kind_in (enforcer_text q e) ≡ enforcer_kind e
+enforcer_read q enforcers.Gather = refl
+enforcer_read q enforcers.Broadcast = refl
+enforcer_read q (enforcers.Sort order) = refl
+enforcer_read q (enforcers.GatherMerge order) = refl
+enforcer_read q (enforcers.Redistribute list) = refl
 
-pub enforcer_large : (e : Enforcer) → 10 ≤ kind_of (named.Enforcer e)
+pub enforcer_large : (e : Enforcer) → 20 ≤ enforcer_kind e
 enforcer_large e = grind arith
+
+-- ---- ways
+
+-- which of the four ways it is
+abbrev pub way_sort : Way → ℕ
+way_sort (Reads access) = 0
+way_sort (Passes kept child) = 1
+way_sort (Joins by left right) = 2
+way_sort (Groups by child) = 3
+
+-- ways of one kind differ in an index or in groups alone
+abbrev pub way_kind : Way → ℕ
+way_kind (Reads Direct) = 0
+way_kind (Reads (Index index)) = 1
+way_kind (Passes Rows child) = 2
+way_kind (Passes SpreadRows child) = 3
+way_kind (Joins Hashing left right) = 4
+way_kind (Joins Merging left right) = 5
+way_kind (Joins Looping left right) = 6
+way_kind (Groups by child) = 7
+
+-- the index by which a way reads, else 0
+abbrev pub way_index : Way → ℕ
+way_index (Reads Direct) = 0
+way_index (Reads (Index index)) = index
+way_index (Passes kept child) = 0
+way_index (Joins by left right) = 0
+way_index (Groups by child) = 0

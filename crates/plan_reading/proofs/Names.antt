@@ -1,55 +1,39 @@
 -- The node that a line names is named so.
-use Rattle.std.proofs.Common.{◌≡◌, ℕ, ◌<◌, ◌≤◌, List, length, refl, sym, ap}
-use Rattle.query_core.specs.Expressions.{HasIndex, IsCandidate, IsPacked}
+use Rattle.std.proofs.Common.{◌≡◌, ℕ, ◌≤◌, List, length, refl, sym, ap, ◌∙◌}
+use Rattle.query_core.specs.Expressions.{implements, table_in}
 use Rattle.query_core.specs.declared.query.Query.{Query}
-use Rattle.query_core.specs.declared.expressions.ExprParts.{ExprParts}
-use Rattle.request_props.specs.Numbered.{lists_of, orders_of}
+use Rattle.query_core.specs.declared.words.KeyParts.TheVariants.{Get}
+use Rattle.query_core.specs.declared.expressions.Physical.{Physical}
+use Rattle.request_props.specs.Numbered.{lists_of}
 use Rattle.plan_space.specs.Modes.{mode_at}
+use Rattle.plan_space.specs.Ways.{way_of}
 use Rattle.plan_space.specs.declared.modes.Mode.{Mode}
 use Rattle.plan_space.specs.declared.seen.Kid.{Kid}
-use Rattle.plan_reading.specs.Named.{named_of, HasForm}
-use Rattle.plan_reading.specs.NodeOver.{node_over, number_in, IsSmall, HasSmallMode}
-use Rattle.plan_reading.specs.Texts.{index_numbers}
+use Rattle.plan_reading.specs.Named.{named_of, HasForm, IsOperatorOf}
+use Rattle.plan_reading.specs.NodeOver.{node_over, number_in, group_over, group_below, second_group, HasSmallMode}
 use Rattle.plan_reading.specs.declared.named.Named.{Named}
 use Rattle.plan_reading.specs.declared.named.Named.TheVariants as named
-use Rattle.plan_reading.proofs.AllTexts.{has_number, only_small, read_small, hash_small, merge_small, loop_small, agg_small}
-use Rattle.plan_reading.proofs.Indexes.{index_known}
+use Rattle.plan_reading.proofs.OperatorRows.{over_again, first_same, table_again}
+use Rattle.plan_reading.proofs.SmallModes.{has_number, mode_small}
 
-module _ (q : Query) (few_lists : length (lists_of q) ≤ 60) (few_orders : length (orders_of q) ≤ 60)
-    (packed : (e : ExprParts) → IsCandidate q e → IsPacked e) where
-  index_few : (t i : ℕ) → HasIndex q t i → (t < length q.tables) × (i < index_numbers)
-  index_few t i has = index_known q packed t i has
-
+module _ (q : Query) (few_lists : length (lists_of q) ≤ 60) where
   -- the mode of a node that the query can name is small
   pub form_small : (n : Named) → HasForm q n → HasSmallMode n
-  form_small (named.Scan t m) form = read_small q t m form.1
-  form_small (named.IndexScan t i m) form = read_small q t m form.1
-  form_small (named.Filter t m) form = only_small q m form.1
-  form_small (named.IndexSeek t i m) form = read_small q t m form.1
-  form_small (named.HashJoin m) form = hash_small q m form
-  form_small (named.MergeJoin m) form = merge_small q m form
-  form_small (named.LoopJoin m) form = loop_small q m form
-  form_small (named.HashAgg m) form = agg_small q few_lists few_orders index_few m form
-  form_small (named.StreamAgg m) form = agg_small q few_lists few_orders index_few m form
-  form_small (named.PartialAgg m) form = only_small q m form
+  form_small (named.Native o t m) form = mode_small q few_lists (way_of o) t m form.has_mode
   form_small (named.Enforcer e) form = tt
 
-  back : (m : Mode) → IsSmall m → mode_at (number_in m) ≡ m
-  back m small = sym (has_number q m small).back
+  operator_named : (o : Physical) (t : ℕ) (m : Mode) (kids : List Kid) → IsOperatorOf q o t m
+      → named_of (node_over (named.Native o t m) kids) ≡ named.Native o t m
+  operator_named o t m kids form =
+      let implemented = implements (Get t) o in
+      let group = group_over implemented t kids in
+      let back = (has_number m (mode_small q few_lists (way_of o) t m form.has_mode)).back in
+      ap (λ x. named.Native x (table_in group) (mode_at (number_in m)))
+      (over_again o (group_below implemented t kids) (second_group kids) ∙ first_same o form.over_none)
+      ∙ ap (λ x. named.Native o x (mode_at (number_in m))) (table_again q o t kids form.has_table)
+      ∙ ap (named.Native o t) (sym back)
 
   -- it is named as it was
-  small_named : (n : Named) (kids : List Kid) → HasSmallMode n → named_of (node_over n kids) ≡ n
-  small_named (named.Scan t m) kids small = ap (named.Scan t) (back m small)
-  small_named (named.IndexScan t i m) kids small = ap (named.IndexScan t i) (back m small)
-  small_named (named.Filter t m) kids small = ap (named.Filter t) (back m small)
-  small_named (named.IndexSeek t i m) kids small = ap (named.IndexSeek t i) (back m small)
-  small_named (named.HashJoin m) kids small = ap named.HashJoin (back m small)
-  small_named (named.MergeJoin m) kids small = ap named.MergeJoin (back m small)
-  small_named (named.LoopJoin m) kids small = ap named.LoopJoin (back m small)
-  small_named (named.HashAgg m) kids small = ap named.HashAgg (back m small)
-  small_named (named.StreamAgg m) kids small = ap named.StreamAgg (back m small)
-  small_named (named.PartialAgg m) kids small = ap named.PartialAgg (back m small)
-  small_named (named.Enforcer e) kids small = refl
-
   pub form_named : (n : Named) (kids : List Kid) → HasForm q n → named_of (node_over n kids) ≡ n
-  form_named n kids form = small_named n kids (form_small n form)
+  form_named (named.Native o t m) kids form = operator_named o t m kids form
+  form_named (named.Enforcer e) kids form = refl

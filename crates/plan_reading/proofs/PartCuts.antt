@@ -11,7 +11,7 @@ use Rattle.plan_reading.proofs.Fronts.{front_passes, front_ends, taken_again, le
 use Rattle.plan_reading.specs.Reading.{is_space, is_bare, IsFlush, ArePartsOf}
 use Rattle.plan_reading.proofs.Cuts.{cut_once}
 use Rattle.plan_reading.proofs.LineTexts.{turned}
-use Rattle.plan_reading.proofs.Bare.{bare_append}
+use Rattle.plan_reading.proofs.BareWords.{bare_append}
 
 -- the line is cut behind its spaces, and then before the first equals sign
 pub record IsSplit (line spaces rest front back : List ℕ) : Type 0 where

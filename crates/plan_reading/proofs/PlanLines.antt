@@ -1,8 +1,6 @@
 -- The lines of a plan: their texts, their outline, and how many they are.
 use Rattle.std.proofs.Common.{◌≡◌, ℕ, suc, List, [], ◌∷◌, ◌++◌, length, map, refl, sym, ap, ◌∙◌, arith}
 use Rattle.std.proofs.lemmas.List.{length-append, map-append}
-use Rattle.query_core.specs.declared.expressions.Physical.{Physical}
-use Rattle.query_core.specs.declared.expressions.Physical.TheVariants as physical
 use Rattle.query_core.specs.declared.query.Query.{Query}
 use Rattle.cardinality.specs.Rows.{rows_of}
 use Rattle.cost_units.specs.Cost.{local_cost}
@@ -11,35 +9,23 @@ use Rattle.plan_space.specs.Gives.{node_group, kid_of}
 use Rattle.query_core.specs.Expressions.{table_in}
 use Rattle.plan_space.specs.Modes.{mode_at}
 use Rattle.plan_space.specs.Nodes.{Tree, leaf, over, two}
-use Rattle.plan_space.specs.declared.modes.Mode.{Mode}
 use Rattle.plan_space.specs.declared.nodes.NodeKind.{NodeKind}
 use Rattle.plan_space.specs.declared.nodes.NodeKind.TheVariants as nodes
 use Rattle.plan_space.specs.declared.seen.Kid.{Kid}
 use Rattle.plan_check.specs.Preorder.{plans_in}
-use Rattle.plan_lines.specs.Text.{indent, numbered, node_text, operator_text, node_line, plan_lines}
+use Rattle.plan_lines.specs.Text.{indent, numbered, node_text, text_if_any, node_line, plan_lines}
 use Rattle.plan_reading.specs.Lines.{line_text, sketch, line_of_node, tree_lines}
-use Rattle.plan_reading.specs.Named.{named_of, named_operator, named_text}
+use Rattle.plan_reading.specs.Named.{named_of, named_text}
 use Rattle.plan_reading.specs.Outline.{outline}
+use Rattle.plan_reading.proofs.OperatorRows.{unplaced_text}
 
 -- ---- their texts
-
-operator_named : (q : Query) (o : Physical) (t : ℕ) (mode : Mode) → operator_text q o t mode
-    ≡ named_text q (named_operator o t mode)
-operator_named q physical.Scan t mode = refl
-operator_named q (physical.IndexScan i) t mode = refl
-operator_named q (physical.Filter c) t mode = refl
-operator_named q (physical.IndexSeek i) t mode = refl
-operator_named q (physical.HashJoin l r) t mode = refl
-operator_named q (physical.MergeJoin l r) t mode = refl
-operator_named q (physical.LoopJoin l r) t mode = refl
-operator_named q (physical.HashAgg c) t mode = refl
-operator_named q (physical.StreamAgg c) t mode = refl
-operator_named q (physical.PartialAgg c) t mode = refl
 
 -- a node's text is that of how its line names it
 pub node_named : (q : Query) (node : NodeKind) → node_text q node ≡ named_text q (named_of node)
 node_named q (nodes.Enforcer e) = refl
-node_named q (nodes.Native e m) = operator_named q e.operator (table_in e.group) (mode_at m)
+node_named q (nodes.Native e m) =
+    ap text_if_any (sym (unplaced_text q e.operator (table_in e.group) (mode_at m)))
 
 node_line_is : (q : Query) (d : ℕ) (node : NodeKind) (kids : List Kid) → node_line q d node kids ≡ line_text q (line_of_node q d node kids)
 node_line_is q d node kids =

@@ -8,7 +8,6 @@ use Rattle.query_core.specs.Keys.{tables_of, top_of}
 use Rattle.query_core.specs.declared.query.Query.{Query}
 use Rattle.plan_space.specs.Cost.{cost_of}
 use Rattle.plan_space.specs.Nodes.{Tree, leaf, over, two}
-use Rattle.plan_space.specs.declared.nodes.Enforcer.TheVariants as enforcers
 use Rattle.plan_lines.specs.Text.{indent, plan_lines, plan_section, output_line}
 use Rattle.plan_reading.specs.Named.{named_text, HasForm}
 use Rattle.plan_reading.specs.Reading.{is_inner}
@@ -16,32 +15,14 @@ use Rattle.plan_reading.specs.Outline.{IsPlanTree}
 use Rattle.plan_reading.specs.Lines.{line_text, sketch, tree_lines}
 use Rattle.plan_reading.specs.declared.line.NodeLine.{NodeLine}
 use Rattle.plan_reading.specs.declared.named.Named.{Named}
-use Rattle.plan_reading.specs.declared.named.Named.TheVariants as named
 use Rattle.plan_reading.proofs.Cuts.{cut_once}
 use Rattle.plan_reading.proofs.Bare.{named_bare}
 use Rattle.plan_reading.proofs.Ended.{inner_line, line_and, cost_and, cost_inner}
+use Rattle.plan_reading.proofs.Flush.{flush}
 use Rattle.plan_reading.proofs.Formed.{known_form}
-use Rattle.plan_reading.proofs.LineTexts.{unended, IsFlush, names_one}
+use Rattle.plan_reading.proofs.LineTexts.{unended, names_one}
 use Rattle.plan_reading.proofs.OneTree.{outline_one}
 use Rattle.plan_reading.proofs.PlanLines.{plan_lines_are, outline_is}
-
--- it begins with no space
-pub flush : (q : Query) (n : Named) → IsFlush (named_text q n)
-flush q (named.Scan t m) = refl
-flush q (named.IndexScan t i m) = refl
-flush q (named.Filter t m) = refl
-flush q (named.IndexSeek t i m) = refl
-flush q (named.HashJoin m) = refl
-flush q (named.MergeJoin m) = refl
-flush q (named.LoopJoin m) = refl
-flush q (named.HashAgg m) = refl
-flush q (named.StreamAgg m) = refl
-flush q (named.PartialAgg m) = refl
-flush q (named.Enforcer enforcers.Gather) = refl
-flush q (named.Enforcer enforcers.Broadcast) = refl
-flush q (named.Enforcer (enforcers.Sort o)) = refl
-flush q (named.Enforcer (enforcers.GatherMerge o)) = refl
-flush q (named.Enforcer (enforcers.Redistribute h)) = refl
 
 module _ (q : Query) (texts : (a b : Named) → HasForm q a → HasForm q b → named_text q a ≡ named_text q b → a ≡ b) where
   -- the nodes of some lines are those that the query can name

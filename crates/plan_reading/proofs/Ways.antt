@@ -12,7 +12,7 @@ use Rattle.plan_reading.specs.declared.line.NodeLine.{NodeLine}
 use Rattle.plan_reading.proofs.Bare.{named_bare}
 use Rattle.plan_reading.proofs.Ended.{before_end, inner_line, line_and, cut_same}
 use Rattle.plan_reading.proofs.LineTexts.{names_one}
-use Rattle.plan_reading.proofs.Sections.{flush}
+use Rattle.plan_reading.proofs.Flush.{flush}
 
 -- these lines were read, the last at this level, and the rest is still to be read
 pub record IsOnTheWay (q : Query) (bytes : List ℕ) (lines : List NodeLine) (last : Option ℕ) (rest : List ℕ) : Type 0 where

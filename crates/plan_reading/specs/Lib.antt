@@ -1,3 +1,4 @@
+pub mod Operators
 pub mod Named
 pub mod NodeOver
 pub mod Outline

@@ -1,16 +1,16 @@
 -- The list of the texts of all nodes that a query can name.
-use Rattle.std.specs.Prelude.{ℕ, ◌≡◌, ◌<◌, ◌↔◌, ◌⊎◌, List, All}
+use Rattle.std.specs.Prelude.{ℕ, ◌≡◌, ◌<◌, ◌↔◌, ◌⊎◌, List, [], ◌∷◌, All}
 use Rattle.std.specs.List.{Contains}
 use Rattle.query_core.specs.declared.query.Query.{Query}
 use Rattle.query_core.specs.declared.words.KeyParts.TheVariants.{Get}
 use Rattle.query_core.specs.declared.expressions.Physical.{Physical}
-use Rattle.query_core.specs.declared.expressions.Physical.TheVariants as physical
 use Rattle.plan_space.specs.Modes.{modes_end}
 use Rattle.plan_space.specs.declared.nodes.Enforcer.{Enforcer}
 use Rattle.plan_space.specs.declared.nodes.Enforcer.TheVariants as enforcers
 use Rattle.plan_space.specs.declared.nodes.NodeKind.{NodeKind}
 use Rattle.plan_space.specs.declared.nodes.NodeKind.TheVariants as nodes
 use Rattle.plan_reading.specs.Named.{named_of, named_text, HasForm}
+use Rattle.plan_reading.specs.Operators.{direct_operators, index_operators}
 use Rattle.plan_reading.specs.declared.named.Named.{Named}
 use Rattle.plan_reading.specs.declared.texts.NodeText.{NodeText}
 
@@ -48,47 +48,34 @@ abbrev pub IsOfOperator : ℕ → Physical → Named → Type 0
 IsOfOperator t o node = (mode : ℕ) × (mode < modes_end)
     × IsOfKind (nodes.Native (record { group = Get t; operator = o }) mode) node
 
--- a move of rows without a number
-abbrev pub IsOfMove : Named → Type 0
-IsOfMove node = IsOfEnforcer enforcers.Gather node ⊎ IsOfEnforcer enforcers.Broadcast node
+-- the node is of one of these
+abbrev pub IsOfAny : {X : Type 0} → (X → Named → Type 0) → List X → Named → Type 0
+IsOfAny {X} Fact list node = (x : X) × Contains list x × Fact x node
 
--- an enforcer by an order or a list of this number
-abbrev pub IsOfNumber : ℕ → Named → Type 0
-IsOfNumber number node =
-    IsOfEnforcer (enforcers.Sort number) node ⊎ IsOfEnforcer (enforcers.GatherMerge number) node
-    ⊎ IsOfEnforcer (enforcers.Redistribute number) node
+-- the moves of rows that have no number
+abbrev pub moves : List Enforcer
+moves = enforcers.Gather ∷ enforcers.Broadcast ∷ []
 
+-- the enforcers by an order or a list of this number
+abbrev pub enforcers_by : ℕ → List Enforcer
+enforcers_by number =
+    enforcers.Sort number ∷ enforcers.GatherMerge number ∷ enforcers.Redistribute number ∷ []
+
+-- by one of so many
 abbrev pub IsOfNumbers : ℕ → Named → Type 0
-IsOfNumbers count node = (number : ℕ) × (number < count) × IsOfNumber number node
+IsOfNumbers count node = (number : ℕ) × (number < count) × IsOfAny IsOfEnforcer (enforcers_by number) node
 
--- a join
-abbrev pub IsOfJoin : Named → Type 0
-IsOfJoin node =
-    IsOfOperator 0 (physical.HashJoin (Get 0) (Get 0)) node ⊎ IsOfOperator 0 (physical.MergeJoin (Get 0) (Get 0)) node
-    ⊎ IsOfOperator 0 (physical.LoopJoin (Get 0) (Get 0)) node
-
--- an aggregation
-abbrev pub IsOfAgg : Named → Type 0
-IsOfAgg node =
-    IsOfOperator 0 (physical.HashAgg (Get 0)) node ⊎ IsOfOperator 0 (physical.StreamAgg (Get 0)) node
-    ⊎ IsOfOperator 0 (physical.PartialAgg (Get 0)) node
-
--- a read by an index of the table
-abbrev pub IsOfIndex : ℕ → ℕ → Named → Type 0
-IsOfIndex t index node =
-    IsOfOperator t (physical.IndexScan index) node ⊎ IsOfOperator t (physical.IndexSeek index) node
-
+-- a read by one of so many indexes of the table
 abbrev pub IsOfIndexes : ℕ → ℕ → Named → Type 0
-IsOfIndexes t count node = (index : ℕ) × (index < count) × IsOfIndex t index node
+IsOfIndexes t count node = (index : ℕ) × (index < count) × IsOfAny (IsOfOperator t) (index_operators index) node
 
 -- so many numbers the word of an expression can name as an index
 abbrev pub index_numbers : ℕ
 index_numbers = 32
 
--- a node over the rows of the table alone
+-- any operator over the table
 abbrev pub IsOfTable : ℕ → Named → Type 0
-IsOfTable t node =
-    IsOfOperator t physical.Scan node ⊎ IsOfOperator t (physical.Filter (Get 0)) node ⊎ IsOfIndexes t index_numbers node
+IsOfTable t node = IsOfAny (IsOfOperator t) direct_operators node ⊎ IsOfIndexes t index_numbers node
 
 abbrev pub IsOfTables : ℕ → Named → Type 0
 IsOfTables count node = (t : ℕ) × (t < count) × IsOfTable t node

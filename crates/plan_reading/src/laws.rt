@@ -73,5 +73,4 @@ pub fn nodes_are_meant()
     ensures small { (q : Query) → ModesAreSmall q }
 {
     sides_are_known();
-    candidates_are_known();
 }

@@ -6,6 +6,7 @@ mod line;
 mod line_ends;
 mod named;
 mod numbers;
+mod operators;
 mod reader;
 mod text;
 mod texts;
@@ -16,4 +17,5 @@ pub use laws::{
 };
 pub use line::NodeLine;
 pub use named::Named;
+pub use operators::over_groups;
 pub use text::{LineFault, Lines, read_lines};

@@ -4,31 +4,27 @@
 ghost use Rattle.std.specs.Prelude.{◌≡◌, ◌↔◌, ◌<◌, IsTrue, length};
 ghost use Rattle.request_props.specs.Numbered.{IsProps};
 ghost use Rattle.plan_space.specs.Lines.{dists_of_table};
-ghost use Rattle.plan_reading.specs.Named.{named_of, named_operator, HasForm};
+ghost use Rattle.plan_reading.specs.Operators.{AreFirst};
+ghost use Rattle.plan_reading.specs.Named.{named_of, HasForm, IsOperatorOf};
+ghost use Rattle.plan_reading.specs.Named.{HasTable, HasPlace, IsPassed, HasModeForm, HasJoinForm};
 ghost use Rattle.plan_reading.specs.Named.{HasOnlyForm, HasReadForm, HasHashForm, HasMergeForm};
 ghost use Rattle.plan_reading.specs.Named.{HasLoopForm, HasAggForm};
 
+use crate::operators::unplaced;
 use plan_check::is_enforcer_of;
-use plan_space::{Enforcer, Mode, NodeKind};
+use plan_lines::way_of;
+use plan_space::{Enforcer, JoinBy, Kept, Mode, NodeKind, Way};
 use plan_tree::is_replicated;
-use query_core::{Physical, Query, table_in};
+use query_core::{Access, Children, KeyParts, Operator, Physical, Query, table_in};
 use request_props::Props;
 
 /// A node as its line names it: an operator in a mode, with the table whose rows it makes, or an
 /// enforcer. Of which group it is isn't said.
 #[derive(Clone, Copy, PartialEq, Eq)]
 pub enum Named {
-    Scan(u32, Mode),
-    /// The number of the index is the second one.
-    IndexScan(u32, u32, Mode),
-    Filter(u32, Mode),
-    IndexSeek(u32, u32, Mode),
-    HashJoin(Mode),
-    MergeJoin(Mode),
-    LoopJoin(Mode),
-    HashAgg(Mode),
-    StreamAgg(Mode),
-    PartialAgg(Mode),
+    /// The groups that the operator stands on count as the first table. The table is 0 for an
+    /// operator that makes no table's rows.
+    Native(Physical, u32, Mode),
     Enforcer(Enforcer),
 }
 
@@ -38,28 +34,13 @@ impl Named {
         ensures { result ≡ named_of kind }
     {
         match kind {
-            NodeKind::Native(expr, mode) => {
-                named_by(expr.operator, table_in(expr.group), Mode::at(mode))
-            }
+            NodeKind::Native(expr, mode) => Named::Native(
+                unplaced(expr.operator),
+                table_in(expr.group),
+                Mode::at(mode),
+            ),
             NodeKind::Enforcer(enforcer) => Named::Enforcer(enforcer),
         }
-    }
-}
-
-fn named_by(operator: Physical, table: u32, mode: Mode) -> Named
-    ensures { result ≡ named_operator operator table mode }
-{
-    match operator {
-        Physical::Scan => Named::Scan(table, mode),
-        Physical::IndexScan(index) => Named::IndexScan(table, index, mode),
-        Physical::Filter(_) => Named::Filter(table, mode),
-        Physical::IndexSeek(index) => Named::IndexSeek(table, index, mode),
-        Physical::HashJoin(_, _) => Named::HashJoin(mode),
-        Physical::MergeJoin(_, _) => Named::MergeJoin(mode),
-        Physical::LoopJoin(_, _) => Named::LoopJoin(mode),
-        Physical::HashAgg(_) => Named::HashAgg(mode),
-        Physical::StreamAgg(_) => Named::StreamAgg(mode),
-        Physical::PartialAgg(_) => Named::PartialAgg(mode),
     }
 }
 
@@ -71,28 +52,94 @@ pub fn has_form(query: &Query, props: &Props, node: Named) -> bool
     ensures { IsTrue result ↔ HasForm query.now node }
 {
     match node {
-        Named::Scan(table, mode) => has_table(query, table) && has_read_form(query, table, mode),
-        Named::IndexScan(table, index, mode) => {
-            query.has_index(table, index) && has_read_form(query, table, mode)
+        Named::Native(operator, table, mode) => {
+            is_operator_of(query, props, operator, table, mode)
         }
-        Named::Filter(table, mode) => has_table(query, table) && has_only_form(mode),
-        Named::IndexSeek(table, index, mode) => {
-            query.has_index(table, index) && has_read_form(query, table, mode)
-        }
-        Named::HashJoin(mode) => has_hash_form(query, mode),
-        Named::MergeJoin(mode) => has_merge_form(query, mode),
-        Named::LoopJoin(mode) => has_loop_form(mode),
-        Named::HashAgg(mode) => has_agg_form(query, props, mode),
-        Named::StreamAgg(mode) => has_agg_form(query, props, mode),
-        Named::PartialAgg(mode) => has_only_form(mode),
         Named::Enforcer(enforcer) => is_enforcer_of(query, props, enforcer),
     }
 }
 
-fn has_table(query: &Query, table: u32) -> bool
+fn is_operator_of(query: &Query, props: &Props, operator: Physical, table: u32, mode: Mode) -> bool
+    requires { IsProps query.now props.now }
+    ensures { IsTrue result ↔ IsOperatorOf query.now operator table mode }
+{
+    let way = way_of(operator);
+    are_first(Operator::Physical(operator).children())
+        && has_table(query, way, table)
+        && has_mode_form(query, props, way, table, mode)
+}
+
+// Whether the groups count as the first table.
+fn are_first(children: Children) -> bool
+    ensures { IsTrue result ↔ AreFirst children }
+{
+    let first = KeyParts::Get(0);
+    match children {
+        Children::Zero => true,
+        Children::One(child) => child == first,
+        Children::Two(left, right) => left == first && right == first,
+    }
+}
+
+// ---- its table
+
+fn has_table(query: &Query, way: Way, table: u32) -> bool
+    ensures { IsTrue result ↔ HasTable query.now way table }
+{
+    match way {
+        Way::Reads(access) => has_place(query, table, access),
+        Way::Passes(kept, _) => is_passed(query, table, kept),
+        Way::Joins(_, _, _) => table == 0,
+        Way::Groups(_, _) => table == 0,
+    }
+}
+
+fn has_place(query: &Query, table: u32, access: Access) -> bool
+    ensures { IsTrue result ↔ HasPlace query.now table access }
+{
+    match access {
+        Access::Direct => is_table(query, table),
+        Access::Index(index) => query.has_index(table, index),
+    }
+}
+
+fn is_passed(query: &Query, table: u32, kept: Kept) -> bool
+    ensures { IsTrue result ↔ IsPassed query.now table kept }
+{
+    match kept {
+        Kept::Rows => is_table(query, table),
+        Kept::SpreadRows => table == 0,
+    }
+}
+
+fn is_table(query: &Query, table: u32) -> bool
     ensures { IsTrue result ↔ (table < length query.now.tables) }
 {
     (table as usize) < query.tables.len()
+}
+
+// ---- its mode
+
+fn has_mode_form(query: &Query, props: &Props, way: Way, table: u32, mode: Mode) -> bool
+    requires { IsProps query.now props.now }
+    ensures { IsTrue result ↔ HasModeForm query.now way table mode }
+{
+    match way {
+        Way::Reads(_) => has_read_form(query, table, mode),
+        Way::Passes(_, _) => has_only_form(mode),
+        Way::Joins(by, _, _) => has_join_form(query, by, mode),
+        Way::Groups(_, _) => has_agg_form(query, props, mode),
+    }
+}
+
+fn has_join_form(query: &Query, by: JoinBy, mode: Mode) -> bool
+    ensures { IsTrue result ↔ HasJoinForm query.now by mode }
+{
+    match by {
+        JoinBy::Hashing => has_hash_form(query, mode),
+        JoinBy::Merging => has_merge_form(query, mode),
+        JoinBy::Looping => has_loop_form(mode),
+    }
 }
 
 fn has_predicate(query: &Query, number: u32) -> bool

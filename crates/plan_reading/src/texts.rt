@@ -1,13 +1,14 @@
 //! The texts of all nodes that a query can name.
 #![tactic(auto)]
 
-ghost use Rattle.std.specs.Prelude.{IfOk, OnOk, length};
+ghost use Rattle.std.specs.Prelude.{◌≡◌, IfOk, OnOk, length};
 ghost use Rattle.request_props.specs.Numbered.{IsProps};
-ghost use Rattle.plan_reading.specs.Texts.{IsNodeTexts, Adds, IsOfKind, IsOfEnforcer, IsOfOperator, IsOfMove};
-ghost use Rattle.plan_reading.specs.Texts.{IsOfNumber, IsOfNumbers, IsOfJoin, IsOfAgg, IsOfIndex, IsOfIndexes};
-ghost use Rattle.plan_reading.specs.Texts.{index_numbers, IsOfTable, IsOfTables};
+ghost use Rattle.plan_reading.specs.Texts.{IsNodeTexts, Adds, IsOfKind, IsOfAny, IsOfEnforcer, IsOfNumbers};
+ghost use Rattle.plan_reading.specs.Texts.{IsOfOperator, IsOfIndexes, IsOfTables, index_numbers};
+ghost use Rattle.plan_reading.specs.Texts.{moves as all_moves, enforcers_by as all_enforcers_by};
 
 use crate::named::{Named, has_form};
+use crate::operators::{direct_operators, index_operators};
 use orca_base::Text;
 use plan_lines::node_text;
 use plan_space::{Enforcer, MODES_END, NodeKind};
@@ -36,28 +37,30 @@ pub fn node_texts(alloc: Global, query: &Query, props: &Props) -> Result<Vec<Nod
     // For the proof: the number of an index fits the word of an expression.
     candidates_are_known();
     let mut texts = Vec::new(alloc);
-    push_moves(alloc, query, props, &mut texts)?;
+    push_enforcers(alloc, query, props, &moves(), &mut texts)?;
     push_numbers(alloc, query, props, &mut texts)?;
-    push_joins(alloc, query, props, &mut texts)?;
-    push_aggs(alloc, query, props, &mut texts)?;
     push_tables(alloc, query, props, &mut texts)?;
     Ok(texts)
 }
 
-// ---- nodes without a table
+// ---- enforcers
 
-fn push_moves(
-    alloc: Global,
-    query: &Query,
-    props: &Props,
-    texts: &mut Vec<NodeText>,
-) -> Result<(), AllocError>
-    requires { IsProps query.now props.now }
-    ensures { OnOk result (Adds query.now IsOfMove texts.old.items texts.new.items) }
+// Those without a number.
+fn moves() -> [Enforcer; 2]
+    ensures { result ≡ all_moves }
 {
-    push_enforcer(alloc, query, props, Enforcer::Gather, texts)?;
-    push_enforcer(alloc, query, props, Enforcer::Broadcast, texts)?;
-    Ok(())
+    [Enforcer::Gather, Enforcer::Broadcast]
+}
+
+// Those by the order or the list of this number.
+fn enforcers_by(number: u32) -> [Enforcer; 3]
+    ensures { result ≡ all_enforcers_by number }
+{
+    [
+        Enforcer::Sort(number),
+        Enforcer::GatherMerge(number),
+        Enforcer::Redistribute(number),
+    ]
 }
 
 fn push_numbers(
@@ -70,62 +73,29 @@ fn push_numbers(
     ensures { OnOk result (Adds query.now (IsOfNumbers 61) texts.old.items texts.new.items) }
 {
     for number in 0..NUMBERS {
-        push_number(alloc, query, props, number, texts)?;
+        push_enforcers(alloc, query, props, &enforcers_by(number), texts)?;
     }
     Ok(())
 }
 
-fn push_number(
+fn push_enforcers(
     alloc: Global,
     query: &Query,
     props: &Props,
-    number: u32,
+    enforcers: &[Enforcer],
     texts: &mut Vec<NodeText>,
 ) -> Result<(), AllocError>
     requires { IsProps query.now props.now }
-    ensures { OnOk result (Adds query.now (IsOfNumber number) texts.old.items texts.new.items) }
+    ensures { OnOk result (Adds query.now (IsOfAny IsOfEnforcer enforcers.now)
+        texts.old.items texts.new.items) }
 {
-    push_enforcer(alloc, query, props, Enforcer::Sort(number), texts)?;
-    push_enforcer(alloc, query, props, Enforcer::GatherMerge(number), texts)?;
-    push_enforcer(alloc, query, props, Enforcer::Redistribute(number), texts)?;
+    for enforcer in enforcers {
+        push_kind(alloc, query, props, NodeKind::Enforcer(*enforcer), texts)?;
+    }
     Ok(())
 }
 
-fn push_joins(
-    alloc: Global,
-    query: &Query,
-    props: &Props,
-    texts: &mut Vec<NodeText>,
-) -> Result<(), AllocError>
-    requires { IsProps query.now props.now }
-    ensures { OnOk result (Adds query.now IsOfJoin texts.old.items texts.new.items) }
-{
-    // A line doesn't say of which groups a join is.
-    let any = KeyParts::Get(0);
-    push_operator(alloc, query, props, 0, Physical::HashJoin(any, any), texts)?;
-    push_operator(alloc, query, props, 0, Physical::MergeJoin(any, any), texts)?;
-    push_operator(alloc, query, props, 0, Physical::LoopJoin(any, any), texts)?;
-    Ok(())
-}
-
-fn push_aggs(
-    alloc: Global,
-    query: &Query,
-    props: &Props,
-    texts: &mut Vec<NodeText>,
-) -> Result<(), AllocError>
-    requires { IsProps query.now props.now }
-    ensures { OnOk result (Adds query.now IsOfAgg texts.old.items texts.new.items) }
-{
-    // Nor of which group an aggregation is.
-    let any = KeyParts::Get(0);
-    push_operator(alloc, query, props, 0, Physical::HashAgg(any), texts)?;
-    push_operator(alloc, query, props, 0, Physical::StreamAgg(any), texts)?;
-    push_operator(alloc, query, props, 0, Physical::PartialAgg(any), texts)?;
-    Ok(())
-}
-
-// ---- nodes over the rows of a table
+// ---- operators
 
 fn push_tables(
     alloc: Global,
@@ -139,25 +109,9 @@ fn push_tables(
 {
     let count = query.tables.len() as u32;
     for table in 0..count {
-        push_table(alloc, query, props, table, texts)?;
+        push_operators(alloc, query, props, table, &direct_operators(), texts)?;
+        push_indexes(alloc, query, props, table, texts)?;
     }
-    Ok(())
-}
-
-fn push_table(
-    alloc: Global,
-    query: &Query,
-    props: &Props,
-    table: u32,
-    texts: &mut Vec<NodeText>,
-) -> Result<(), AllocError>
-    requires { IsProps query.now props.now }
-    ensures { OnOk result (Adds query.now (IsOfTable table) texts.old.items texts.new.items) }
-{
-    let any = KeyParts::Get(0);
-    push_operator(alloc, query, props, table, Physical::Scan, texts)?;
-    push_operator(alloc, query, props, table, Physical::Filter(any), texts)?;
-    push_indexes(alloc, query, props, table, texts)?;
     Ok(())
 }
 
@@ -173,57 +127,31 @@ fn push_indexes(
         (Adds query.now (IsOfIndexes table index_numbers) texts.old.items texts.new.items) }
 {
     for index in 0..INDEXES {
-        push_index(alloc, query, props, table, index, texts)?;
+        push_operators(alloc, query, props, table, &index_operators(index), texts)?;
     }
     Ok(())
 }
 
-fn push_index(
+// Operators over a table, which counts only where the line names it.
+fn push_operators(
     alloc: Global,
     query: &Query,
     props: &Props,
     table: u32,
-    index: u32,
+    operators: &[Physical],
     texts: &mut Vec<NodeText>,
 ) -> Result<(), AllocError>
     requires { IsProps query.now props.now }
-    ensures { OnOk result (Adds query.now (IsOfIndex table index) texts.old.items texts.new.items) }
+    ensures { OnOk result (Adds query.now (IsOfAny (IsOfOperator table) operators.now)
+        texts.old.items texts.new.items) }
 {
-    push_operator(
-        alloc,
-        query,
-        props,
-        table,
-        Physical::IndexScan(index),
-        texts,
-    )?;
-    push_operator(
-        alloc,
-        query,
-        props,
-        table,
-        Physical::IndexSeek(index),
-        texts,
-    )?;
+    for operator in operators {
+        push_operator(alloc, query, props, table, *operator, texts)?;
+    }
     Ok(())
 }
 
-// ---- one node
-
-fn push_enforcer(
-    alloc: Global,
-    query: &Query,
-    props: &Props,
-    enforcer: Enforcer,
-    texts: &mut Vec<NodeText>,
-) -> Result<(), AllocError>
-    requires { IsProps query.now props.now }
-    ensures { OnOk result (Adds query.now (IsOfEnforcer enforcer) texts.old.items texts.new.items) }
-{
-    push_kind(alloc, query, props, NodeKind::Enforcer(enforcer), texts)
-}
-
-// An operator over a table in each mode; the table counts only where the line names it.
+// An operator over the table in each mode.
 fn push_operator(
     alloc: Global,
     query: &Query,

@@ -1,3 +1,4 @@
 pub mod Added
 pub mod Columns
 pub mod Lists
+pub mod Names

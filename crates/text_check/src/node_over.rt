@@ -8,13 +8,15 @@ ghost use Rattle.plan_space.specs.Modes.{modes_end};
 ghost use Rattle.plan_tree.specs.Seen.{kids_seen};
 ghost use Rattle.plan_reading.specs.NodeOver.{node_over as node_by_name, native as native_in};
 ghost use Rattle.plan_reading.specs.NodeOver.{number_in as number_of_mode, IsSmall, HasSmallMode};
-ghost use Rattle.plan_reading.specs.NodeOver.{second_group as group_of_second};
+ghost use Rattle.plan_reading.specs.NodeOver.{second_group as group_of_second, joined_group as group_of_joined};
+ghost use Rattle.plan_reading.specs.NodeOver.{native_over as native_by_name, group_over as group_by_name};
+ghost use Rattle.plan_reading.specs.NodeOver.{group_below as below_by_name};
 ghost use Rattle.text_check.specs.Grown.{HasMode, HaveRanges};
 
-use plan_reading::Named;
+use plan_reading::{Named, over_groups};
 use plan_space::{Mode, NodeKind};
 use plan_tree::Below;
-use query_core::{KeyParts, Physical, PhysicalExpr};
+use query_core::{KeyParts, Logical, Physical, PhysicalExpr};
 
 /// The one node that may be meant.
 pub fn node_over(named: Named, below: Below) -> NodeKind
@@ -23,28 +25,69 @@ pub fn node_over(named: Named, below: Below) -> NodeKind
     ensures node { result ≡ node_by_name named (kids_seen below) }
     ensures mode { HasMode result }
 {
-    let (left, right) = (first_group(below), second_group(below));
-    let joined = KeyParts::Join(left.tables() | right.tables());
     match named {
-        Named::Scan(table, mode) => native(KeyParts::Get(table), Physical::Scan, mode),
-        Named::IndexScan(table, index, mode) => {
-            native(KeyParts::Get(table), Physical::IndexScan(index), mode)
+        Named::Native(operator, table, mode) => {
+            let implemented = operator.implements(KeyParts::Get(table));
+            native_over(implemented, operator, table, mode, below)
         }
-        Named::Filter(table, mode) => {
-            let read = KeyParts::Get(table);
-            native(KeyParts::Filter(table), Physical::Filter(read), mode)
-        }
-        Named::IndexSeek(table, index, mode) => {
-            native(KeyParts::Filter(table), Physical::IndexSeek(index), mode)
-        }
-        Named::HashJoin(mode) => native(joined, Physical::HashJoin(left, right), mode),
-        Named::MergeJoin(mode) => native(joined, Physical::MergeJoin(left, right), mode),
-        Named::LoopJoin(mode) => native(joined, Physical::LoopJoin(left, right), mode),
-        Named::HashAgg(mode) => native(KeyParts::Agg, Physical::HashAgg(left), mode),
-        Named::StreamAgg(mode) => native(KeyParts::Agg, Physical::StreamAgg(left), mode),
-        Named::PartialAgg(mode) => native(KeyParts::Partial, Physical::PartialAgg(left), mode),
         Named::Enforcer(enforcer) => NodeKind::Enforcer(enforcer),
     }
+}
+
+// The operator that implements this, over the plans.
+fn native_over(
+    implemented: Logical,
+    operator: Physical,
+    table: u32,
+    mode: Mode,
+    below: Below,
+) -> NodeKind
+    requires small { IsSmall mode }
+    requires groups { HaveRanges (kids_seen below) }
+    ensures node { result ≡ native_by_name implemented operator table mode (kids_seen below) }
+    ensures mode { HasMode result }
+{
+    let left = group_below(implemented, table, below);
+    let over = over_groups(operator, left, second_group(below));
+    native(group_over(implemented, table, below), over, mode)
+}
+
+// The group in which this is implemented.
+fn group_over(implemented: Logical, table: u32, below: Below) -> KeyParts
+    requires { HaveRanges (kids_seen below) }
+    ensures { result ≡ group_by_name implemented table (kids_seen below) }
+{
+    match implemented {
+        Logical::Get => KeyParts::Get(table),
+        Logical::Select(_) => KeyParts::Filter(table),
+        Logical::NJoin => joined_group(below),
+        Logical::Join(_, _) => joined_group(below),
+        Logical::Agg(_) => KeyParts::Agg,
+        Logical::Partial(_) => KeyParts::Partial,
+    }
+}
+
+// The first of the groups below.
+fn group_below(implemented: Logical, table: u32, below: Below) -> KeyParts
+    requires { HaveRanges (kids_seen below) }
+    ensures { result ≡ below_by_name implemented table (kids_seen below) }
+{
+    match implemented {
+        Logical::Get => first_group(below),
+        Logical::Select(_) => KeyParts::Get(table),
+        Logical::NJoin => first_group(below),
+        Logical::Join(_, _) => first_group(below),
+        Logical::Agg(_) => first_group(below),
+        Logical::Partial(_) => first_group(below),
+    }
+}
+
+// The group that joins the tables of the plans.
+fn joined_group(below: Below) -> KeyParts
+    requires { HaveRanges (kids_seen below) }
+    ensures { result ≡ group_of_joined (kids_seen below) }
+{
+    KeyParts::Join(first_group(below).tables() | second_group(below).tables())
 }
 
 fn native(group: KeyParts, operator: Physical, mode: Mode) -> NodeKind

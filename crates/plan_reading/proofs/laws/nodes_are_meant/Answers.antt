@@ -8,8 +8,8 @@ returns-clause-meant c = λ q node kids is of. over_one q (c.sides_are_known.ens
 
 pub returns-clause-kept : goal.returns-clause-kept
 returns-clause-kept c = λ q name kids limits form.
-    form_named q limits.few_lists limits.few_orders (c.candidates_are_known.ensures.packed q) name kids form
+    form_named q limits.few_lists name kids form
 
 pub returns-clause-small : goal.returns-clause-small
 returns-clause-small c = λ q name limits form.
-    form_small q limits.few_lists limits.few_orders (c.candidates_are_known.ensures.packed q) name form
+    form_small q limits.few_lists name form

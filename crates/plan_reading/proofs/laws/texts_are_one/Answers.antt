@@ -1,7 +1,7 @@
 -- No two nodes that the query can name have one text.
 use Rattle.std.proofs.Common.{arith}
 use Rattle.plan_reading.proofs.Nodes.{named_one}
-use Rattle.plan_reading.proofs.Indexes.{index_known}
+use Rattle.plan_reading.proofs.OperatorRows.{index_known}
 use Rattle.plan_reading.proofs.laws.texts_are_one.Goals as goal
 
 pub returns : goal.returns

@@ -1,4 +1,4 @@
-use Rattle.std.proofs.Common.{◌≡◌, ◌∙◌, ap, sym, subst}
+use Rattle.std.proofs.Common.{◌≡◌, ◌∙◌, sym, subst}
 use Rattle.job_trace.specs.Pieces.{piece_text, AreKept}
 use Rattle.job_trace.proofs.KeptPieces.{kept_at}
 use Rattle.job_trace.proofs.pieces.Pieces.find.Goals as goal
@@ -10,5 +10,6 @@ returns-in-Some-Some c = λ q kept.
     let lookup = c.in-Some-Some.ensures.lookup in
     let text = kept_at q c.as_slice.result.now c.args.place c.in-Some-Some.field-0.now c.in-Some-Some.kept
     (subst (AreKept q) (sym all) kept) lookup.3.0 lookup.1 c.in-Some-Some.field-0-is in
-    let same : c.in-Some-Some.kept.piece ≡ c.args.piece = c.is_same.ensures c.if-is_same.true in
-    c.as_str.ensures ∙ text ∙ ap (piece_text q) same
+    let same : piece_text q c.in-Some-Some.kept.piece ≡ piece_text q c.args.piece =
+    c.is_same.ensures q c.if-is_same.true in
+    c.as_str.ensures ∙ text ∙ same
