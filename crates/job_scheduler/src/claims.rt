@@ -2,7 +2,8 @@
 ghost use Rattle.std.specs.Prelude.{◌≡◌, ◌<◌, ◌≤◌, IfSome};
 ghost use Rattle.goal_board.specs.Seats.{hands};
 ghost use Rattle.job_scheduler.specs.Workers.{IsWorkerOf};
-ghost use Rattle.job_scheduler.specs.Claims.{StaysClosed, StaysFull, WorkerClaims, WorkerSweeps, WorkerFinds, WorkerSeeks, WorkerSeeksAll};
+ghost use Rattle.job_scheduler.specs.Claims.{StaysClosed, StaysFull, WorkerClaims, WorkerSweeps, WorkerFinds};
+ghost use Rattle.job_scheduler.specs.Claims.{WorkerSeeks, WorkerSeeksAll};
 
 use crate::jobs::Jobs;
 use crate::scheduler::Scheduler;

@@ -1,6 +1,6 @@
 ghost use Rattle.std.specs.Prelude.{◌≡◌, ◌≢◌, ℕ, ◌<◌};
 ghost use Rattle.goal_board.specs.Seats.{IsSeatOf, hands};
-ghost use Rattle.goal_board.specs.RightCalls.{IsRightOf};
+ghost use Rattle.goal_board.specs.SeatCalls.{HasRightTo};
 ghost use Rattle.board_moves.specs.Turns.{Turns};
 ghost use Rattle.board_moves.specs.Counts.{AdvancesAlone};
 ghost use Rattle.board_moves.specs.declared.progress.Turned.TheVariants as turned;
@@ -28,7 +28,7 @@ pub trait Jobs<R: GoalRules>: Send + Sync {
     ) -> Turned
         requires rules { board.now.setup.rules ≡ rules_of self.now }
         requires seat { IsSeatOf R.meaning board.now seat.old }
-        requires right { IsRightOf (R.meaning board.now.setup.rules) board.now.setup.capacity (hands seat.old) right }
+        requires right { HasRightTo R.meaning board.now seat.old right }
         requires fresh { right.waits ≡ 0 }
         requires worker { worker < 64 }
         requires hints { hints.old ≡ board.now.setup.capacity }
