@@ -246,7 +246,7 @@ fn serve_by(memo: Memo<'_>, e: PhysicalExpr, wanted: Request) -> Option<GoalKind
         (λ goal. (goal ≡ GoalKind.OptE e wanted)
         × ((mode : ℕ) × HasAlternative memo.entry.query.now e wanted mode)) }
 {
-    if may_serve(memo.query, memo.props, e, wanted) {
+    if may_serve(memo.query, memo.props, &e, wanted) {
         Some(GoalKind::OptE(e, wanted))
     } else {
         None

@@ -121,7 +121,7 @@ fn goal_here<'q>(
     candidates_are_known();
     expressions_are_one();
     entries_are_known();
-    if !may_serve(query, props, candidate.expr, wanted) {
+    if !may_serve(query, props, &candidate.expr, wanted) {
         return None;
     }
     let goal = member_goal(Expr(candidate.word), wanted);

@@ -105,7 +105,7 @@ fn best_mode<'q, H: Hints>(
             mode,
             line,
         };
-        let other = await_mode(query, board, seat, job, native, hints)?;
+        let other = await_mode(query, board, seat, job, &native, hints)?;
         choice = choice.or(other);
         from = mode + 1;
     }
@@ -118,29 +118,23 @@ fn await_mode<'q, H: Hints>(
     board: &Board<Rules<'q>>,
     seat: &mut Seat<Rules<'q>>,
     job: &mut Job,
-    native: Native,
+    native: &Native,
     hints: &mut H,
 ) -> Option<Choice>
     requires at_work { IsAtWork query.now board.now seat.old job.old (H.capacity hints.old) }
-    requires native { IsNative query.now native }
-    requires alternative { IsAlternative query.now native.expr native.wanted native.mode native.line }
-    requires goal { NamesGoal query.now job.old.right.goal (OptE native.expr native.wanted) }
+    requires native { IsNative query.now native.now }
+    requires alternative { IsAlternative query.now native.now.expr native.now.wanted native.now.mode
+        native.now.line }
+    requires goal { NamesGoal query.now job.old.right.goal (OptE native.now.expr native.now.wanted) }
     ensures at_work { IsAtWork query.now board.now seat.new job.new (H.capacity hints.new) }
     ensures chooses { Chooses query.now board.now.setup.capacity (hands seat.old) job.old.right
-        (IsGoalIn query.now native.expr native.wanted native.mode)
-        (IsBestIn query.now native.expr native.wanted native.mode)
+        (IsGoalIn query.now native.now.expr native.now.wanted native.now.mode)
+        (IsBestIn query.now native.now.expr native.now.wanted native.now.mode)
         result (hands seat.new) job.new.right }
 {
     // For the proof: members are candidates.
     members_are_candidates();
-    let Native {
-        expr,
-        wanted,
-        rows: _,
-        mode,
-        line,
-    } = native;
-    let alt = alternative_at(query, expr, wanted, mode, line);
+    let alt = alternative_at(query, native.expr, native.wanted, native.mode, native.line);
     await_alternative(query, board, seat, job, native, alt, hints)
 }
 
@@ -150,32 +144,34 @@ fn await_alternative<'q, H: Hints>(
     board: &Board<Rules<'q>>,
     seat: &mut Seat<Rules<'q>>,
     job: &mut Job,
-    native: Native,
+    native: &Native,
     alt: Alt,
     hints: &mut H,
 ) -> Option<Choice>
     requires at_work { IsAtWork query.now board.now seat.old job.old (H.capacity hints.old) }
-    requires native { IsNative query.now native }
-    requires alternative { IsAltBy query.now native.expr native.wanted native.mode alt native.line }
-    requires goal { NamesGoal query.now job.old.right.goal (OptE native.expr native.wanted) }
+    requires native { IsNative query.now native.now }
+    requires alternative { IsAltBy query.now native.now.expr native.now.wanted native.now.mode alt
+        native.now.line }
+    requires goal { NamesGoal query.now job.old.right.goal (OptE native.now.expr native.now.wanted) }
     ensures at_work { IsAtWork query.now board.now seat.new job.new (H.capacity hints.new) }
     ensures chooses { Chooses query.now board.now.setup.capacity (hands seat.old) job.old.right
-        (IsGoalIn query.now native.expr native.wanted native.mode)
-        (IsBestIn query.now native.expr native.wanted native.mode)
+        (IsGoalIn query.now native.now.expr native.now.wanted native.now.mode)
+        (IsBestIn query.now native.now.expr native.now.wanted native.now.mode)
         result (hands seat.new) job.new.right }
 {
     let left = await_asked(query, board, seat, job, alt.left, hints)?;
     let right = await_asked(query, board, seat, job, alt.right, hints)?;
     match (left, right) {
         (Choice::Known(left), Choice::Known(right)) => {
-            let Native {
-                expr,
-                wanted,
-                rows,
-                mode: _,
-                line,
-            } = native;
-            let best = best_in_mode(query, expr, rows, line, wanted, alt, (left, right));
+            let best = best_in_mode(
+                query,
+                native.expr,
+                native.rows,
+                native.line,
+                native.wanted,
+                alt,
+                (left, right),
+            );
             Some(Choice::Known(best))
         }
         (Choice::Known(_), Choice::Open) => Some(Choice::Open),

@@ -1,6 +1,6 @@
 -- The modes in which what stands on one child serves a request.
-use Rattle.std.proofs.Common.{◌↔◌, ℕ, ◌<◌, ◌≤◌, IsTrue, length, nat_lt, arith}
-use Rattle.std.proofs.lemmas.Bool.{and_parts, ltb-true}
+use Rattle.std.proofs.Common.{◌↔◌, ℕ, ◌<◌, IsTrue, length, nat_lt}
+use Rattle.std.proofs.lemmas.Bool.{and_parts}
 use Rattle.query_core.specs.declared.expressions.Children.TheVariants.{One}
 use Rattle.query_core.specs.declared.query.Query.{Query}
 use Rattle.query_core.specs.declared.words.KeyParts.{KeyParts}
@@ -23,12 +23,9 @@ use Rattle.plan_tree.specs.ServingModes.{ServesBy}
 use Rattle.plan_tree.proofs.FoundLines.{by_first, by_test, nothing_found}
 
 -- a list that is grouped has a number
-pub grouped_numbered : (q : Query) (list : ℕ) → IsTrue (is_grouped_list q list) → IsTrue (nat_lt list (length (lists_of q)))
+pub grouped_numbered : (q : Query) (list : ℕ) → IsTrue (is_grouped_list q list)
+    → IsTrue (nat_lt list (length (lists_of q)))
 grouped_numbered q list is = (and_parts (nat_lt list (length (lists_of q))) (are_grouped q (list_of q list)) is).0
-
--- and so a small one, where there are few
-pub grouped_near : (q : Query) (list : ℕ) → length (lists_of q) ≤ 60 → IsTrue (is_grouped_list q list) → list < 60
-grouped_near q list few is = omega (arith, ltb-true list (length (lists_of q)) (grouped_numbered q list is), few)
 
 module _ (q : Query) (child : KeyParts) (wanted : Request) where
   abbrev Serves : Line → Type 0

@@ -35,7 +35,8 @@ crossing_near q left right pred a b crosses =
 copied_by : (number : ℕ) → number < 64 → mode_at (64 + number) ≡ Copied number
 copied_by number near =
     let same : 64 + number - 64 ≡ number = omega arith in
-    subst (λ (n : ℕ). mode_at (64 + number) ≡ Copied n) same (copied_at (64 + number) (omega arith) (omega (arith, near)))
+    subst (λ (n : ℕ). mode_at (64 + number) ≡ Copied n) same
+    (copied_at (64 + number) (omega arith) (omega (arith, near)))
 
 module _ (q : Query) (left : KeyParts) where
   -- what is given on one segment, spread or hashed is a distribution that a join can give

@@ -20,8 +20,8 @@ use Rattle.plan_space.specs.declared.ways.Way.{Way}
 use Rattle.plan_space.specs.declared.ways.Way.TheVariants.{Joins}
 use Rattle.plan_space.proofs.WayShapes.{children_same, way_children}
 use Rattle.plan_tree.specs.Alternatives.{HasAlternative}
-use Rattle.plan_tree.specs.ServingModes.{AreFittingLeft, AreJoinModes, AreToTry, DistSuits, IsNextServing, MayServe, OrderSuits}
-use Rattle.plan_tree.specs.ServingModes.{ServesBy}
+use Rattle.plan_tree.specs.ServingModes.{AreFittingLeft, AreJoinModes, AreToTry, DistSuits, IsNextServing, MayServe}
+use Rattle.plan_tree.specs.ServingModes.{OrderSuits, ServesBy}
 use Rattle.plan_tree.specs.Walks.{IsNextOf}
 use Rattle.plan_tree.proofs.JoinNeeds.{join_needs}
 use Rattle.plan_tree.proofs.JoinSuits.{needs_suit, suit_needs}

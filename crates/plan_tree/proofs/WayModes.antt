@@ -48,7 +48,8 @@ lined found In Finds exact by = (
 )
 
 -- a line is made of what is found
-made : {A : Type 0} (make : A → Line) (found : Option A) → HasLine (option_map make found) ↔ ((x : A) × (found ≡ Some x))
+made : {A : Type 0} (make : A → Line) (found : Option A)
+    → HasLine (option_map make found) ↔ ((x : A) × (found ≡ Some x))
 made make found = let by = by_made IsAny make found in (
   λ (line, at). let (x, is, any) = by.0 (line, at, tt) in (x, is),
   λ (x, is). let (line, at, any) = by.1 (x, is, tt) in (line, at),
@@ -120,7 +121,8 @@ module _ (q : Query) (group : KeyParts) (modes : ModeSets) where
             lined _ _ _ (copied n) (by_first IsAny (Beside SameSpread (in_order 0) (request dists.Copies 0)) n)
         hash_lined crosses (Hashed n) = crossing_lined (hash_colocated q) n _ (crosses n)
 
-        pub loop_lined : ((n : ℕ) → IsInSet modes.hashed n → ⊥) → AreModesOf q group (Joins joins.Looping left right) modes
+        pub loop_lined : ((n : ℕ) → IsInSet modes.hashed n → ⊥)
+            → AreModesOf q group (Joins joins.Looping left right) modes
         loop_lined nowhere (Plain n) =
             lined _ _ _ (first n) (by_first IsAny (Beside on_one Same (request dists.One 0)) n)
         loop_lined nowhere (Copied n) =

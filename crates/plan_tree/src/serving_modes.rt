@@ -18,19 +18,19 @@ use query_core::{PhysicalExpr, Query};
 use request_props::{Props, Request};
 
 /// Whether the expression may serve the request in some mode.
-pub fn may_serve(query: &Query, props: &Props, expr: PhysicalExpr, wanted: Request) -> bool
+pub fn may_serve(query: &Query, props: &Props, expr: &PhysicalExpr, wanted: Request) -> bool
     requires props { IsProps query.now props.now }
-    requires candidate { IsCandidate query.now (expr_of expr) }
+    requires candidate { IsCandidate query.now (expr_of expr.now) }
     requires numbered { IsNumbered query.now wanted.order }
-    ensures { IsTrue result ↔ MayServe query.now expr wanted }
+    ensures { IsTrue result ↔ MayServe query.now expr.now wanted }
 {
     // For the proof: the columns of a join have lists and orders that fit its left child.
     what_is_asked_fits();
     match way_of(expr.operator) {
-        Way::Reads(_) => serves_in_some(query, props, expr, wanted),
-        Way::Passes(_, _) => serves_in_some(query, props, expr, wanted),
+        Way::Reads(_) => serves_in_some(query, props, *expr, wanted),
+        Way::Passes(_, _) => serves_in_some(query, props, *expr, wanted),
         Way::Joins(by, left, right) => join_may_serve(query, props, by, left, right, wanted),
-        Way::Groups(_, _) => serves_in_some(query, props, expr, wanted),
+        Way::Groups(_, _) => serves_in_some(query, props, *expr, wanted),
     }
 }
 

@@ -18,13 +18,13 @@ use Rattle.job_turns.proofs.modes.await_alternative.Goals as goal
 
 pub await_asked-requires-clause-asked : goal.await_asked-requires-clause-asked
 await_asked-requires-clause-asked g c =
-    let native = c.args.native in
+    let native = c.args.native.now in
     (children_asked c.args.query.now native.expr native.wanted native.mode c.args.alt native.line c.requires.alternative
     c.args.job.now.right.goal c.requires.goal).0
 
 pub await_asked-requires-2-clause-asked : goal.await_asked-requires-2-clause-asked
 await_asked-requires-2-clause-asked g c =
-    let native = c.args.native in
+    let native = c.args.native.now in
     subst (λ (word : ℕ). IsAskedByChild c.args.query.now word c.args.alt.right)
     (sym c.in_ok-left.ensures.chooses.awaited.proceeds.same_goal)
     (children_asked c.args.query.now native.expr native.wanted native.mode c.args.alt native.line c.requires.alternative
@@ -66,7 +66,7 @@ in_mode q capacity v before native alt is left right u middle w after a b choice
 
 pub returns-in-Known-Known-clause-chooses : goal.returns-in-Known-Known-clause-chooses
 returns-in-Known-Known-clause-chooses g c =
-    let native = c.args.native in
+    let native = c.args.native.now in
     in_mode c.args.query.now c.args.board.now.setup.capacity (hands c.args.seat.now) c.args.job.now.right native
     c.args.alt
     c.requires.alternative c.in_ok-left.left c.in_ok-right.right (hands c.await_asked.new.seat)
@@ -78,7 +78,7 @@ returns-in-Known-Known-clause-chooses g c =
 
 pub returns-in-Known-Open-clause-chooses : goal.returns-in-Known-Open-clause-chooses
 returns-in-Known-Open-clause-chooses g c =
-    in_mode c.args.query.now c.args.board.now.setup.capacity (hands c.args.seat.now) c.args.job.now.right c.args.native
+    in_mode c.args.query.now c.args.board.now.setup.capacity (hands c.args.seat.now) c.args.job.now.right c.args.native.now
     c.args.alt c.requires.alternative c.in_ok-left.left c.in_ok-right.right (hands c.await_asked.new.seat)
     c.await_asked.new.job.right
     (hands c.await_asked-2.new.seat) c.await_asked-2.new.job.right c.in_ok-left.ensures.chooses
@@ -92,7 +92,7 @@ returns-in-Open-default-clause-chooses g c =
     subst (IsChoice (IsBestAsked c.args.query.now c.args.alt.left) c.await_asked.new.job.right)
     c.in-Open-default.is-0 c.in_ok-left.ensures.chooses.is in
     let more = c.in_ok-right.ensures.chooses.awaited.proceeds.more_waits in
-    in_mode c.args.query.now c.args.board.now.setup.capacity (hands c.args.seat.now) c.args.job.now.right c.args.native
+    in_mode c.args.query.now c.args.board.now.setup.capacity (hands c.args.seat.now) c.args.job.now.right c.args.native.now
     c.args.alt c.requires.alternative c.in_ok-left.left c.in_ok-right.right (hands c.await_asked.new.seat)
     c.await_asked.new.job.right
     (hands c.await_asked-2.new.seat) c.await_asked-2.new.job.right c.in_ok-left.ensures.chooses

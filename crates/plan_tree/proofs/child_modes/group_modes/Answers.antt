@@ -14,13 +14,16 @@ use Rattle.plan_tree.proofs.child_modes.group_modes.Goals as goal
 pub returns-then-order_is_given : goal.returns-then-order_is_given
 returns-then-order_is_given c =
     let q = c.args.query.now in
-    let modes : ModeSets = record { plain = c.one_for-plain.result; copied = c.none.result; hashed = c.grouped_for-hashed.result } in
+    let plain = c.one_for-plain in
+    let hashed = c.grouped_for-hashed in
+    let modes : ModeSets = record { plain = plain.result; copied = c.none.result; hashed = hashed.result } in
     subst (λ (sets : ModeSets). (child : KeyParts) (mode : Mode) → HasModeIn sets mode
     ↔ ServesBy q (agg_line q c.args.order mode) (One child) c.args.wanted) (sym c.tried.ensures)
     (λ child. groups_serve q child c.args.wanted c.args.order modes
-    (c.order_is_given.ensures.0 c.if-order_is_given.true) c.one_for-plain.ensures c.none.ensures
-    c.grouped_for-hashed.ensures)
+    (c.order_is_given.ensures.0 c.if-order_is_given.true) plain.ensures c.none.ensures hashed.ensures)
 
 pub returns-else-order_is_given : goal.returns-else-order_is_given
-returns-else-order_is_given c = λ child. groups_none c.args.query.now child c.args.wanted c.args.order c.none-else-order_is_given.result
-    (λ begins. false≢true (sym c.if-order_is_given.false ∙ c.order_is_given.ensures.1 begins)) c.none-else-order_is_given.ensures
+returns-else-order_is_given c = λ child.
+    let none = c.none-else-order_is_given in
+    groups_none c.args.query.now child c.args.wanted c.args.order none.result
+    (λ begins. false≢true (sym c.if-order_is_given.false ∙ c.order_is_given.ensures.1 begins)) none.ensures

@@ -43,7 +43,8 @@ returns-in-Merging c =
     let placed = c.placed-in-Merging in
     let merging = c.merging-merging in
     let hashing = c.hashing-hashing in
-    let both = subst (λ (set : NumberSet). (n : ℕ) → IsInSet set n ↔ (IsInSet merging.result n × IsInSet hashing.result n))
+    let both = subst (λ (set : NumberSet). (n : ℕ) → IsInSet set n
+    ↔ (IsInSet merging.result n × IsInSet hashing.result n))
     (sym placed.ensures.hashed) c.and-hashed.ensures in
     subst (λ (by : JoinBy). AreJoinModes q by l r w placed.result) (sym c.in-Merging.is)
     (merge_modes q l r w merging.result placed.result placed.ensures.plain placed.ensures.copied hashing.result

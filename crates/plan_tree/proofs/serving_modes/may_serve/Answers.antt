@@ -6,7 +6,7 @@ use Rattle.plan_tree.proofs.serving_modes.may_serve.Goals as goal
 pub returns-in-Joins : goal.returns-in-Joins
 returns-in-Joins c =
     let q = c.args.query.now in
-    let e = c.args.expr in
+    let e = c.args.expr.now in
     let w = c.args.wanted in
     let joins = sym c.way_of.ensures ∙ c.in-Joins.is in
     let crossings = c.what_is_asked_fits.ensures.crossings q in (

@@ -26,7 +26,8 @@ returns-in-Passes c =
     let none = c.none-nothing in
     let modes : ModeSets = record { plain = first.result; copied = none.result; hashed = none.result } in
     subst (λ (way : Way). AreModesOf q group way c.tried-in-Passes.result) (sym c.in-Passes.is)
-    (subst (λ (sets : ModeSets). AreModesOf q group (Passes c.in-Passes.field-0 c.in-Passes.field-1) sets) (sym c.tried-in-Passes.ensures)
+    (subst (λ (sets : ModeSets). AreModesOf q group (Passes c.in-Passes.field-0 c.in-Passes.field-1) sets)
+    (sym c.tried-in-Passes.ensures)
     (passes_lined q group modes none.ensures none.ensures c.in-Passes.field-0 c.in-Passes.field-1
     (λ n. (first.ensures.only n, first.ensures.all (omega arith) n))))
 
@@ -43,6 +44,8 @@ returns-in-Groups c =
     let none = c.none-nothing in
     let modes : ModeSets = record { plain = first.result; copied = none.result; hashed = c.all_lists.result } in
     subst (λ (way : Way). AreModesOf q group way c.tried-in-Groups.result) (sym c.in-Groups.is)
-    (subst (λ (sets : ModeSets). AreModesOf q group (Groups c.in-Groups.field-0 c.in-Groups.field-1) sets) (sym c.tried-in-Groups.ensures)
-    (groups_lined q group modes c.in-Groups.field-0 c.in-Groups.field-1 (λ n. (first.ensures.only n, first.ensures.all (omega arith) n)) none.ensures
+    (subst (λ (sets : ModeSets). AreModesOf q group (Groups c.in-Groups.field-0 c.in-Groups.field-1) sets)
+    (sym c.tried-in-Groups.ensures)
+    (groups_lined q group modes c.in-Groups.field-0 c.in-Groups.field-1
+    (λ n. (first.ensures.only n, first.ensures.all (omega arith) n)) none.ensures
     c.all_lists.ensures))
