@@ -1,5 +1,5 @@
 -- What the numbers of modes mean.
-use Rattle.std.specs.Prelude.{ℕ, ◌-◌, nat_lt, if◌then◌else◌, ⊤}
+use Rattle.std.specs.Prelude.{ℕ, ◌-◌, nat_lt, if◌then◌else◌}
 use Rattle.plan_space.specs.declared.modes.Mode.{Mode}
 use Rattle.plan_space.specs.declared.modes.Mode.TheVariants.{Plain, Copied, Hashed}
 use Rattle.plan_space.specs.declared.modes.ModeSets.{ModeSets}
@@ -15,18 +15,6 @@ mode_at number =
 -- where a query has at most 60 hashed lists, no mode from this number on has a line
 abbrev pub modes_end : ℕ
 modes_end = 192
-
--- the mode is neither with copies nor by a hash
-abbrev pub IsPlain : Mode → Type 0
-IsPlain (Plain number) = ⊤
-IsPlain (Copied number) = ⊥
-IsPlain (Hashed number) = ⊥
-
--- the mode is with copies or by a hash, of rows that are shared out among the segments
-abbrev pub IsSpread : Mode → Type 0
-IsSpread (Plain number) = ⊥
-IsSpread (Copied number) = ⊤
-IsSpread (Hashed number) = ⊤
 
 -- the mode is by a number of the set of its kind
 abbrev pub HasModeIn : ModeSets → Mode → Type 0

@@ -1,9 +1,9 @@
 //! What the number of a mode means. Nothing else knows how modes are numbered.
 #![tactic(auto)]
 
-ghost use Rattle.std.specs.Prelude.{ℕ, ◌≡◌, ◌<◌, ◌≤◌, ◌↔◌};
+ghost use Rattle.std.specs.Prelude.{ℕ, ◌≡◌, ◌<◌, ◌≤◌};
 ghost use Rattle.request_props.specs.NumberSets.{NoneBetween};
-ghost use Rattle.plan_space.specs.Modes.{mode_at, HasModeIn, IsPlain, IsSpread};
+ghost use Rattle.plan_space.specs.Modes.{mode_at, HasModeIn};
 ghost use Rattle.plan_space.specs.declared.modes.Mode.{Mode as AnyMode};
 
 use request_props::NumberSet;
@@ -60,28 +60,6 @@ impl ModeSets {
             plain: NumberSet::none(),
             copied: NumberSet::none(),
             hashed: NumberSet::none(),
-        }
-    }
-
-    /// Those that are plain.
-    pub fn plain(self) -> ModeSets
-        ensures { (mode : AnyMode) → HasModeIn result mode ↔ (HasModeIn self mode × IsPlain mode) }
-    {
-        ModeSets {
-            plain: self.plain,
-            copied: NumberSet::none(),
-            hashed: NumberSet::none(),
-        }
-    }
-
-    /// The others.
-    pub fn spread(self) -> ModeSets
-        ensures { (mode : AnyMode) → HasModeIn result mode ↔ (HasModeIn self mode × IsSpread mode) }
-    {
-        ModeSets {
-            plain: NumberSet::none(),
-            copied: self.copied,
-            hashed: self.hashed,
         }
     }
 
