@@ -9,7 +9,8 @@ ghost use Rattle.goal_board.specs.SeatCalls.{HasRightTo, HasSeenPromise};
 
 use crate::Numbers;
 use goal_board::{
-    Answer, Awaited, Board, Closed, GoalRules, Hints, Inserted, Right, Seat, Suspended, Woken,
+    Answer, Awaited, Board, Closed, Finished, GoalRules, Hints, Inserted, Right, Seat, Suspended,
+    Woken,
 };
 use std::process::Abort;
 use std::test::Fail;
@@ -336,11 +337,10 @@ fn wait_and_finish(
     finish_one(board, seat, right, 63, Answer { cost: 40, node: 4 })
 }
 
-// What a closed board held: so many cells and answers, a goal that is ready, and whether it was full.
-fn holds(closed: &Closed, cells: usize, answers: usize, ready: Option<u64>, full: bool) -> bool {
+// What a closed board held: so many cells and finished goals, a goal that is ready, and whether it was full.
+fn holds(closed: &Closed, cells: usize, finished: usize, ready: Option<u64>, full: bool) -> bool {
     closed.cells.len() == cells
-        && closed.answers.len() == answers
-        && closed.who.len() == answers
+        && closed.finished.len() == finished
         && closed.ready == ready
         && closed.full == full
 }
@@ -371,7 +371,7 @@ fn a_word_is_in_one_cell(rt: HostRuntime) -> Result<(), Fail> {
     assert!(rt; finds(&board, &mut seat, 1));
     board.join(&mut seat, other);
     let closed = board.close(rt.alloc(), seat)?;
-    assert!(rt; closed.cells.len() == 3 && closed.answers.is_empty() && !closed.full);
+    assert!(rt; closed.cells.len() == 3 && closed.finished.is_empty() && !closed.full);
     Ok(())
 }
 
@@ -430,11 +430,21 @@ fn wait_for_three(rt: &impl Abort, board: &Board<Numbers>, seat: &mut Seat<Numbe
 }
 
 // What came out of 3 or 4, and which worker finished it.
-fn outcome_of(goal: u64) -> (Answer, u32) {
+fn outcome_of(goal: u64) -> Finished {
     if goal == 3 {
-        (Answer { cost: 30, node: 3 }, 5)
+        let answer = Answer { cost: 30, node: 3 };
+        Finished {
+            goal,
+            answer,
+            who: 5,
+        }
     } else {
-        (Answer { cost: 40, node: 4 }, 63)
+        let answer = Answer { cost: 40, node: 4 };
+        Finished {
+            goal,
+            answer,
+            who: 63,
+        }
     }
 }
 
@@ -446,11 +456,8 @@ fn a_goal_waits_for_its_child(rt: HostRuntime) -> Result<(), Fail> {
     board.join(&mut seat, other);
     let closed = board.close(rt.alloc(), seat)?;
     let (one, two) = if four_first { (4, 3) } else { (3, 4) };
-    let (first, first_worker) = outcome_of(one);
-    let (second, second_worker) = outcome_of(two);
     assert!(rt; closed.cells.as_slice() == [one, two].as_slice());
-    assert!(rt; closed.answers.as_slice() == [(one, first), (two, second)].as_slice());
-    assert!(rt; closed.who.as_slice() == [first_worker, second_worker].as_slice());
+    assert!(rt; closed.finished.as_slice() == [outcome_of(one), outcome_of(two)].as_slice());
     assert!(rt; !closed.full && closed.ready.is_none());
     Ok(())
 }
