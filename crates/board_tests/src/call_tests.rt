@@ -1,15 +1,16 @@
 ghost use Rattle.std.specs.Prelude.{◌≡◌, ℕ, ◌<◌, ◌≤◌, [], ◌∷◌};
 ghost use Rattle.board_rule.specs.Looks.{ShowsFinished};
 ghost use Rattle.board_tests.specs.Numbers.{HasOnly};
-ghost use Rattle.board_tests.specs.Idle.{IsIdleAt, HasLooked};
+ghost use Rattle.board_tests.specs.Idle.{IsIdleAt, StaysIdle, KeepsSeat, HasLooked};
 ghost use Rattle.goal_board.specs.Seats.{IsSeatOf, hands};
 ghost use Rattle.goal_board.specs.Calls.{Inserts};
-ghost use Rattle.goal_board.specs.RightCalls.{IsRightOf, waited};
-ghost use Rattle.goal_board.specs.SeatCalls.{HasSeenPromise};
+ghost use Rattle.goal_board.specs.RightCalls.{waited};
+ghost use Rattle.goal_board.specs.SeatCalls.{HasRightTo, HasSeenPromise};
 
 use crate::Numbers;
 use goal_board::{
-    Answer, Awaited, Board, Closed, GoalRules, Hints, Inserted, Right, Seat, Suspended, Woken,
+    Answer, Awaited, Board, Closed, Finished, GoalRules, Hints, Inserted, Right, Seat, Suspended,
+    Woken,
 };
 use std::process::Abort;
 use std::test::Fail;
@@ -32,10 +33,8 @@ impl Hints for Deaf {
 fn put_in<R: GoalRules>(board: &Board<R>, seat: &mut Seat<R>, word: u64) -> Inserted
     requires seat { IsSeatOf R.meaning board.now seat.old }
     requires enters { (R.meaning board.now.setup.rules).entry word }
-    ensures seat { IsSeatOf R.meaning board.now seat.new }
+    ensures seat { KeepsSeat R.meaning board.now seat.old seat.new }
     ensures answer { Inserts board.now.setup.capacity (hands seat.old) word result (hands seat.new) }
-    ensures parts { (hands seat.new).parts ≡ (hands seat.old).parts }
-    ensures rights { (hands seat.new).rights ≡ (hands seat.old).rights }
 {
     board.insert(seat, word)
 }
@@ -52,7 +51,7 @@ fn claim_goal<R: GoalRules>(
     requires near { at < board.now.setup.capacity }
     requires rights { (hands seat.old).rights ≡ [] }
     ensures seat { IsSeatOf R.meaning board.now seat.new }
-    ensures right { IsRightOf (R.meaning board.now.setup.rules) board.now.setup.capacity (hands seat.new) result }
+    ensures right { HasRightTo R.meaning board.now seat.new result }
     ensures goal { result.goal ≡ goal }
     ensures waits { result.waits ≡ 0 }
     ensures only { HasOnly (hands seat.new).rights result.place }
@@ -72,10 +71,8 @@ fn claim_goal<R: GoalRules>(
 fn find_busy<R: GoalRules>(rt: &impl Abort, board: &Board<R>, seat: &mut Seat<R>, at: u32)
     requires seat { IsSeatOf R.meaning board.now seat.old }
     requires near { at < board.now.setup.capacity }
-    ensures seat { IsSeatOf R.meaning board.now seat.new }
+    ensures seat { KeepsSeat R.meaning board.now seat.old seat.new }
     ensures looks { HasLooked (hands seat.old) (hands seat.new) }
-    ensures rights { (hands seat.new).rights ≡ (hands seat.old).rights }
-    ensures parts { (hands seat.new).parts ≡ (hands seat.old).parts }
 {
     match board.claim(seat, at) {
         None => {}
@@ -96,11 +93,9 @@ fn claim_in_vain<R: GoalRules>(
 )
     requires seat { IsSeatOf R.meaning board.now seat.old }
     requires near { at < board.now.setup.capacity }
-    requires right { IsRightOf (R.meaning board.now.setup.rules) board.now.setup.capacity (hands seat.old) right.now }
-    ensures seat { IsSeatOf R.meaning board.now seat.new }
-    ensures right { IsRightOf (R.meaning board.now.setup.rules) board.now.setup.capacity (hands seat.new) right.now }
-    ensures rights { (hands seat.new).rights ≡ (hands seat.old).rights }
-    ensures parts { (hands seat.new).parts ≡ (hands seat.old).parts }
+    requires right { HasRightTo R.meaning board.now seat.old right.now }
+    ensures seat { KeepsSeat R.meaning board.now seat.old seat.new }
+    ensures right { HasRightTo R.meaning board.now seat.new right.now }
 {
     find_busy(rt, board, seat, at);
 }
@@ -116,12 +111,12 @@ fn wait_on<R: GoalRules>(
 ) -> Awaited
     requires seat { IsSeatOf R.meaning board.now seat.old }
     requires near { at < board.now.setup.capacity }
-    requires right { IsRightOf (R.meaning board.now.setup.rules) board.now.setup.capacity (hands seat.old) right.old }
+    requires right { HasRightTo R.meaning board.now seat.old right.old }
     requires only { HasOnly (hands seat.old).rights right.old.place }
     requires child { (R.meaning board.now.setup.rules).child right.old.goal child }
     requires fewer { right.old.waits < 8 }
     ensures seat { IsSeatOf R.meaning board.now seat.new }
-    ensures right { IsRightOf (R.meaning board.now.setup.rules) board.now.setup.capacity (hands seat.new) right.new }
+    ensures right { HasRightTo R.meaning board.now seat.new right.new }
     ensures only { HasOnly (hands seat.new).rights right.new.place }
     ensures waited { right.new ≡ waited result right.old }
     ensures parts { (hands seat.new).parts ≡ (hands seat.old).parts }
@@ -138,7 +133,7 @@ fn wait_on<R: GoalRules>(
 // Gives up the only right of a seat.
 fn pause<R: GoalRules>(board: &Board<R>, seat: &mut Seat<R>, right: Right) -> Suspended
     requires seat { IsSeatOf R.meaning board.now seat.old }
-    requires right { IsRightOf (R.meaning board.now.setup.rules) board.now.setup.capacity (hands seat.old) right }
+    requires right { HasRightTo R.meaning board.now seat.old right }
     requires only { HasOnly (hands seat.old).rights right.place }
     ensures seat { IsSeatOf R.meaning board.now seat.new }
     ensures rights { (hands seat.new).rights ≡ [] }
@@ -156,7 +151,7 @@ fn finish_one<R: GoalRules>(
     answer: Answer,
 ) -> Woken
     requires seat { IsSeatOf R.meaning board.now seat.old }
-    requires right { IsRightOf (R.meaning board.now.setup.rules) board.now.setup.capacity (hands seat.old) right }
+    requires right { HasRightTo R.meaning board.now seat.old right }
     requires only { HasOnly (hands seat.old).rights right.place }
     requires waits { right.waits ≡ 0 }
     requires worker { worker < 64 }
@@ -176,9 +171,7 @@ fn finish_one<R: GoalRules>(
 fn answer_at<R: GoalRules>(board: &Board<R>, seat: &mut Seat<R>, at: u32) -> Option<Answer>
     requires seat { IsSeatOf R.meaning board.now seat.old }
     requires near { at < board.now.setup.capacity }
-    ensures seat { IsSeatOf R.meaning board.now seat.new }
-    ensures rights { (hands seat.new).rights ≡ (hands seat.old).rights }
-    ensures parts { (hands seat.new).parts ≡ (hands seat.old).parts }
+    ensures seat { KeepsSeat R.meaning board.now seat.old seat.new }
 {
     board.answer(seat, at)
 }
@@ -194,13 +187,11 @@ fn see_finished<R: GoalRules>(
 ) -> Answer
     requires seat { IsSeatOf R.meaning board.now seat.old }
     requires near { at < board.now.setup.capacity }
-    requires right { IsRightOf (R.meaning board.now.setup.rules) board.now.setup.capacity (hands seat.old) right.now }
-    ensures seat { IsSeatOf R.meaning board.now seat.new }
-    ensures right { IsRightOf (R.meaning board.now.setup.rules) board.now.setup.capacity (hands seat.new) right.now }
+    requires right { HasRightTo R.meaning board.now seat.old right.now }
+    ensures seat { KeepsSeat R.meaning board.now seat.old seat.new }
+    ensures right { HasRightTo R.meaning board.now seat.new right.now }
     ensures finished { ShowsFinished (R.meaning board.now.setup.rules) board.now.setup.capacity
         (hands seat.new).looks goal }
-    ensures rights { (hands seat.new).rights ≡ (hands seat.old).rights }
-    ensures parts { (hands seat.new).parts ≡ (hands seat.old).parts }
 {
     let Some(word) = board.word_at(seat, at) else {
         panic!(rt; "the cell is empty");
@@ -248,8 +239,7 @@ fn put_all(board: &Board<Numbers>, mut seat: Seat<Numbers>) -> (Seat<Numbers>, u
 fn place_of(rt: &impl Abort, board: &Board<Numbers>, seat: &mut Seat<Numbers>, word: u64) -> u32
     requires idle { IsIdleAt board.now seat.old }
     requires enters { (1 ≤ word) × (word ≤ 4) }
-    ensures idle { IsIdleAt board.now seat.new }
-    ensures parts { (hands seat.new).parts ≡ (hands seat.old).parts }
+    ensures idle { StaysIdle board.now seat.old seat.new }
     ensures near { result < board.now.setup.capacity }
 {
     match put_in(board, seat, word) {
@@ -268,8 +258,7 @@ fn finish_three(
 ) -> Woken
     requires idle { IsIdleAt board.now seat.old }
     requires near { three < board.now.setup.capacity }
-    ensures idle { IsIdleAt board.now seat.new }
-    ensures parts { (hands seat.new).parts ≡ (hands seat.old).parts }
+    ensures idle { StaysIdle board.now seat.old seat.new }
 {
     let right = claim_goal(rt, board, seat, three, 3);
     finish_one(board, seat, right, 5, Answer { cost: 30, node: 3 })
@@ -285,8 +274,7 @@ fn finish_four(
 ) -> Woken
     requires idle { IsIdleAt board.now seat.old }
     requires near { (three < board.now.setup.capacity) × (four < board.now.setup.capacity) }
-    ensures idle { IsIdleAt board.now seat.new }
-    ensures parts { (hands seat.new).parts ≡ (hands seat.old).parts }
+    ensures idle { StaysIdle board.now seat.old seat.new }
 {
     let right = claim_goal(rt, board, seat, four, 4);
     let answer = see_finished(rt, board, seat, three, 3, &right);
@@ -303,8 +291,7 @@ fn claim_and_give_up(
 ) -> Suspended
     requires idle { IsIdleAt board.now seat.old }
     requires near { three < board.now.setup.capacity }
-    ensures idle { IsIdleAt board.now seat.new }
-    ensures parts { (hands seat.new).parts ≡ (hands seat.old).parts }
+    ensures idle { StaysIdle board.now seat.old seat.new }
 {
     let right = claim_goal(rt, board, seat, three, 3);
     claim_in_vain(rt, board, seat, three, &right);
@@ -321,8 +308,7 @@ fn wait_and_give_up(
 ) -> (Awaited, Suspended)
     requires idle { IsIdleAt board.now seat.old }
     requires near { (three < board.now.setup.capacity) × (four < board.now.setup.capacity) }
-    ensures idle { IsIdleAt board.now seat.new }
-    ensures parts { (hands seat.new).parts ≡ (hands seat.old).parts }
+    ensures idle { StaysIdle board.now seat.old seat.new }
 {
     let mut right = claim_goal(rt, board, seat, four, 4);
     claim_in_vain(rt, board, seat, four, &right);
@@ -340,8 +326,7 @@ fn wait_and_finish(
 ) -> Woken
     requires idle { IsIdleAt board.now seat.old }
     requires near { (three < board.now.setup.capacity) × (four < board.now.setup.capacity) }
-    ensures idle { IsIdleAt board.now seat.new }
-    ensures parts { (hands seat.new).parts ≡ (hands seat.old).parts }
+    ensures idle { StaysIdle board.now seat.old seat.new }
 {
     let mut right = claim_goal(rt, board, seat, four, 4);
     if wait_on(rt, board, seat, &mut right, three, 3) == Awaited::Registered {
@@ -352,11 +337,10 @@ fn wait_and_finish(
     finish_one(board, seat, right, 63, Answer { cost: 40, node: 4 })
 }
 
-// What a closed board held: so many cells and answers, a goal that is ready, and whether it was full.
-fn holds(closed: &Closed, cells: usize, answers: usize, ready: Option<u64>, full: bool) -> bool {
+// What a closed board held: so many cells and finished goals, a goal that is ready, and whether it was full.
+fn holds(closed: &Closed, cells: usize, finished: usize, ready: Option<u64>, full: bool) -> bool {
     closed.cells.len() == cells
-        && closed.answers.len() == answers
-        && closed.who.len() == answers
+        && closed.finished.len() == finished
         && closed.ready == ready
         && closed.full == full
 }
@@ -364,16 +348,14 @@ fn holds(closed: &Closed, cells: usize, answers: usize, ready: Option<u64>, full
 // Whether the word was found.
 fn finds(board: &Board<Numbers>, seat: &mut Seat<Numbers>, word: u64) -> bool
     requires idle { IsIdleAt board.now seat.old }
-    ensures idle { IsIdleAt board.now seat.new }
-    ensures parts { (hands seat.new).parts ≡ (hands seat.old).parts }
+    ensures idle { StaysIdle board.now seat.old seat.new }
 {
     board.holds(seat, word)
 }
 
 fn put_three_words(rt: &impl Abort, board: &Board<Numbers>, seat: &mut Seat<Numbers>)
     requires idle { IsIdleAt board.now seat.old }
-    ensures idle { IsIdleAt board.now seat.new }
-    ensures parts { (hands seat.new).parts ≡ (hands seat.old).parts }
+    ensures idle { StaysIdle board.now seat.old seat.new }
 {
     place_of(rt, board, seat, 4);
     place_of(rt, board, seat, 3);
@@ -389,14 +371,13 @@ fn a_word_is_in_one_cell(rt: HostRuntime) -> Result<(), Fail> {
     assert!(rt; finds(&board, &mut seat, 1));
     board.join(&mut seat, other);
     let closed = board.close(rt.alloc(), seat)?;
-    assert!(rt; closed.cells.len() == 3 && closed.answers.is_empty() && !closed.full);
+    assert!(rt; closed.cells.len() == 3 && closed.finished.is_empty() && !closed.full);
     Ok(())
 }
 
 fn claim_in_turn(rt: &impl Abort, board: &Board<Numbers>, seat: &mut Seat<Numbers>)
     requires idle { IsIdleAt board.now seat.old }
-    ensures idle { IsIdleAt board.now seat.new }
-    ensures parts { (hands seat.new).parts ≡ (hands seat.old).parts }
+    ensures idle { StaysIdle board.now seat.old seat.new }
 {
     let three = place_of(rt, board, seat, 3);
     let four = place_of(rt, board, seat, 4);
@@ -418,8 +399,7 @@ fn a_goal_is_claimed_by_one_at_a_time(rt: HostRuntime) -> Result<(), Fail> {
 // Lets 4 wait for 3, finishes 3 and then 4. Tells whether 4 stands before 3.
 fn wait_for_three(rt: &impl Abort, board: &Board<Numbers>, seat: &mut Seat<Numbers>) -> bool
     requires idle { IsIdleAt board.now seat.old }
-    ensures idle { IsIdleAt board.now seat.new }
-    ensures parts { (hands seat.new).parts ≡ (hands seat.old).parts }
+    ensures idle { StaysIdle board.now seat.old seat.new }
 {
     let four = place_of(rt, board, seat, 4);
     let three = place_of(rt, board, seat, 3);
@@ -450,11 +430,21 @@ fn wait_for_three(rt: &impl Abort, board: &Board<Numbers>, seat: &mut Seat<Numbe
 }
 
 // What came out of 3 or 4, and which worker finished it.
-fn outcome_of(goal: u64) -> (Answer, u32) {
+fn outcome_of(goal: u64) -> Finished {
     if goal == 3 {
-        (Answer { cost: 30, node: 3 }, 5)
+        let answer = Answer { cost: 30, node: 3 };
+        Finished {
+            goal,
+            answer,
+            who: 5,
+        }
     } else {
-        (Answer { cost: 40, node: 4 }, 63)
+        let answer = Answer { cost: 40, node: 4 };
+        Finished {
+            goal,
+            answer,
+            who: 63,
+        }
     }
 }
 
@@ -466,11 +456,8 @@ fn a_goal_waits_for_its_child(rt: HostRuntime) -> Result<(), Fail> {
     board.join(&mut seat, other);
     let closed = board.close(rt.alloc(), seat)?;
     let (one, two) = if four_first { (4, 3) } else { (3, 4) };
-    let (first, first_worker) = outcome_of(one);
-    let (second, second_worker) = outcome_of(two);
     assert!(rt; closed.cells.as_slice() == [one, two].as_slice());
-    assert!(rt; closed.answers.as_slice() == [(one, first), (two, second)].as_slice());
-    assert!(rt; closed.who.as_slice() == [first_worker, second_worker].as_slice());
+    assert!(rt; closed.finished.as_slice() == [outcome_of(one), outcome_of(two)].as_slice());
     assert!(rt; !closed.full && closed.ready.is_none());
     Ok(())
 }
@@ -494,7 +481,7 @@ fn give_up_both<R: GoalRules>(
 ) -> (Suspended, Suspended)
     requires seat { IsSeatOf R.meaning board.now seat.old }
     requires near { at < board.now.setup.capacity }
-    requires right { IsRightOf (R.meaning board.now.setup.rules) board.now.setup.capacity (hands seat.old) first }
+    requires right { HasRightTo R.meaning board.now seat.old first }
 {
     let Some(second) = board.claim(seat, at) else {
         board.suspend(seat, first);
@@ -517,8 +504,7 @@ fn a_seat_may_hold_two_goals(rt: HostRuntime) -> Result<(), Fail> {
 
 fn fill_the_only_cell(rt: &impl Abort, board: &Board<Numbers>, seat: &mut Seat<Numbers>)
     requires idle { IsIdleAt board.now seat.old }
-    ensures idle { IsIdleAt board.now seat.new }
-    ensures parts { (hands seat.new).parts ≡ (hands seat.old).parts }
+    ensures idle { StaysIdle board.now seat.old seat.new }
 {
     assert!(rt; !board.full_seen(seat));
     let three = place_of(rt, board, seat, 3);

@@ -3,8 +3,13 @@ ghost use Rattle.std.specs.Prelude.{◌≡◌, ◌≢◌, ◌++◌, ℕ, Bool, L
 ghost use Rattle.std.specs.Bool.{Decides};
 ghost use Rattle.command_line.specs.Numbers.{IsWithin};
 ghost use Rattle.command_line.specs.Options.{MayBeOff};
-ghost use Rattle.dump_replay.specs.Lines.{BeginsWith, HasForm, Lacks, version as the_version, capacity as the_capacity, root as the_root, off as the_off, print as the_print, catalog as the_catalog, query as the_query};
-ghost use Rattle.dump_replay.specs.Lines.{version_line as the_version_line, capacity_line as the_capacity_line, root_line as the_root_line, off_line as the_off_line, print_line as the_print_line, catalog_line as the_catalog_line, query_line as the_query_line, sections_word};
+ghost use Rattle.dump_replay.specs.Lines.{BeginsWith, HasForm, Lacks, version as the_version};
+ghost use Rattle.dump_replay.specs.Lines.{capacity as the_capacity, root as the_root, off as the_off};
+ghost use Rattle.dump_replay.specs.Lines.{print as the_print, catalog as the_catalog, query as the_query};
+ghost use Rattle.dump_replay.specs.Lines.{version_line as the_version_line, capacity_line as the_capacity_line};
+ghost use Rattle.dump_replay.specs.Lines.{root_line as the_root_line, off_line as the_off_line};
+ghost use Rattle.dump_replay.specs.Lines.{print_line as the_print_line, catalog_line as the_catalog_line};
+ghost use Rattle.dump_replay.specs.Lines.{query_line as the_query_line, sections_word};
 
 use crate::line_ends::cut_line;
 use crate::spelling::off_line;

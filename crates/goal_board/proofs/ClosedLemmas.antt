@@ -1,11 +1,12 @@
 -- The lists that are read of a board's words, one place after the other.
-use Rattle.std.proofs.Common.{◌≡◌, ◌==◌, ℕ, zero, suc, ◌+◌, ◌-◌, ◌^◌, nat_le, List, [], ◌∷◌, ◌++◌, get_or, cond, sym}
+use Rattle.std.proofs.Common.{◌≡◌, ◌==◌, ℕ, zero, suc, ◌+◌, List, [], ◌∷◌, ◌++◌, get_or, cond, sym}
 use Rattle.std.proofs.Common.{subst, ap, ◌∙◌, arith}
 use mathlib.Core.Option.{some, some-injective, some-ne-none}
 use lib.ListN.{get_elem?}
 use Rattle.board_rule.specs.Words.{Mem}
 use Rattle.goal_board.specs.declared.answers.Answer.{Answer}
-use Rattle.goal_board.specs.Closed.{cells_below, answers_below, who_below}
+use Rattle.goal_board.specs.declared.answers.Finished.{Finished}
+use Rattle.goal_board.specs.Closed.{cells_below, with_closed, finished_with, finished_at, finished_below}
 
 word_read : (l : List ℕ) (i x : ℕ) → get_elem? l i ≡ some x → get_or l i 0 ≡ x
 word_read [] i x e = absurd (some-ne-none x (sym e))
@@ -23,21 +24,12 @@ cells_next m n word cells after so_far is made =
     made ∙ ap (λ x. cond (x == 0) cells (cells ++ x ∷ [])) (sym is)
     ∙ ap (λ l. cond (m.cell n == 0) l (l ++ m.cell n ∷ [])) so_far ∙ sym (ap (cells_below m) e)
 
-pub answers_next : (m : Mem) (n head goal : ℕ) (answer : Answer) (answers after : List (ℕ × Answer))
-    → answers ≡ answers_below m n → m.head n ≡ head → m.cell n ≡ goal
-    → m.cost n ≡ answer.cost → m.node n ≡ answer.node
-    → after ≡ cond (nat_le (2 ^ 63) head) (answers ++ (goal, answer) ∷ []) answers → after ≡ answers_below m (n + 1)
-answers_next m n head goal answer answers after so_far is_head is_goal is_cost is_node made =
+pub finished_next : (m : Mem) (n head goal who : ℕ) (answer : Answer) (finished after : List Finished)
+    → finished ≡ finished_below m n → m.head n ≡ head → m.cell n ≡ goal
+    → m.cost n ≡ answer.cost → m.node n ≡ answer.node → m.who n ≡ who
+    → after ≡ with_closed head finished (finished_with goal answer who) → after ≡ finished_below m (n + 1)
+finished_next m n head goal who answer finished after so_far is_head is_goal is_cost is_node is_who made =
     let e : n + 1 ≡ suc n = omega arith in
-    made ∙ (λ i. cond (nat_le (2 ^ 63) (sym is_head i))
-    (answers ++ (sym is_goal i, record { cost = sym is_cost i; node = sym is_node i }) ∷ []) answers)
-    ∙ ap (λ l. cond (nat_le (2 ^ 63) (m.head n)) (l ++ (m.cell n, record { cost = m.cost n; node = m.node n }) ∷ []) l)
-    so_far ∙ sym (ap (answers_below m) e)
-
-pub who_next : (m : Mem) (n head who : ℕ) (workers after : List ℕ) → workers ≡ who_below m n → m.head n ≡ head
-    → m.who n ≡ who
-    → after ≡ cond (nat_le (2 ^ 63) head) (workers ++ (who - 1) ∷ []) workers → after ≡ who_below m (n + 1)
-who_next m n head who workers after so_far is_head is_who made =
-    let e : n + 1 ≡ suc n = omega arith in
-    made ∙ (λ i. cond (nat_le (2 ^ 63) (sym is_head i)) (workers ++ (sym is_who i - 1) ∷ []) workers)
-    ∙ ap (λ l. cond (nat_le (2 ^ 63) (m.head n)) (l ++ (m.who n - 1) ∷ []) l) so_far ∙ sym (ap (who_below m) e)
+    made ∙ (λ i. with_closed (sym is_head i) finished
+    (finished_with (sym is_goal i) (record { cost = sym is_cost i; node = sym is_node i }) (sym is_who i)))
+    ∙ ap (λ l. with_closed (m.head n) l (finished_at m n)) so_far ∙ sym (ap (finished_below m) e)

@@ -12,6 +12,7 @@ use Rattle.board_rule.specs.Rule.{HoldsGoal, IsFull, IsRecorded, IsSound}
 use Rattle.board_rule.specs.declared.hands.Hands.{Hands}
 use Rattle.goal_board.specs.declared.answers.Closed.{Closed}
 use Rattle.goal_board.specs.declared.answers.Answer.{Answer}
+use Rattle.goal_board.specs.declared.answers.Finished.{Finished}
 
 -- the words of the taken cells at places below a number, in order
 abbrev pub cells_below : Mem → ℕ → List ℕ
@@ -22,16 +23,18 @@ cells_below m (suc n) = cond (m.cell n == 0) (cells_below m n) (cells_below m n 
 abbrev pub with_closed : {A : Type 0} → ℕ → List A → A → List A
 with_closed head items item = cond (nat_le (2 ^ 63) head) (items ++ item ∷ []) items
 
--- the goals at these places whose heads are closed, each with its answer words
-abbrev pub answers_below : Mem → ℕ → List (ℕ × Answer)
-answers_below m zero = []
-answers_below m (suc n) = with_closed (m.head n) (answers_below m n)
-    (m.cell n, record { cost = m.cost n; node = m.node n })
+-- a goal with its answer and its worker, whose number plus 1 is the word
+abbrev pub finished_with : (goal : ℕ) → Answer → (who : ℕ) → Finished
+finished_with goal answer who = record { goal = goal; answer = answer; who = who - 1 }
 
--- the workers of these goals
-abbrev pub who_below : Mem → ℕ → List ℕ
-who_below m zero = []
-who_below m (suc n) = with_closed (m.head n) (who_below m n) (m.who n - 1)
+-- the goal at a place, with its answer and its worker
+abbrev pub finished_at : Mem → ℕ → Finished
+finished_at m p = finished_with (m.cell p) (record { cost = m.cost p; node = m.node p }) (m.who p)
+
+-- those at these places whose heads are closed
+abbrev pub finished_below : Mem → ℕ → List Finished
+finished_below m zero = []
+finished_below m (suc n) = with_closed (m.head n) (finished_below m n) (finished_at m n)
 
 -- each finished goal has the number of one of 64 workers, plus 1
 abbrev pub HasWorkers : Mem → ℕ → Type 0
@@ -57,8 +60,7 @@ IsFirstReady meaning m capacity (Some goal) = (p : ℕ) × (p < capacity) × (m.
 -- what was read of the words
 pub record ReadsBoard (meaning : Meaning) (capacity : ℕ) (m : Mem) (closed : Closed) : Type 0 where
   pub cells : closed.cells ≡ cells_below m capacity
-  pub answers : closed.answers ≡ answers_below m capacity
-  pub who : closed.who ≡ who_below m capacity
+  pub finished : closed.finished.items ≡ finished_below m capacity
   pub full : closed.full ≡ not (m.full == 0)
   pub ready : IsFirstReady meaning m capacity closed.ready
 

@@ -33,15 +33,21 @@ pub struct Woken {
     pub one: Option<u32>,
 }
 
+/// A finished goal, with its answer and the worker that finished it.
+#[derive(Debug, Clone, Copy, PartialEq, Eq)]
+pub struct Finished {
+    pub goal: u64,
+    pub answer: Answer,
+    pub who: u32,
+}
+
 /// What a board held when it was closed.
 #[derive(Debug, Drop)]
 pub struct Closed {
     /// The words of the taken cells, in the order of their places.
     pub cells: List<u64>,
-    /// The finished goals in that order, each with its answer.
-    pub answers: List<(u64, Answer)>,
-    /// The workers that finished these goals.
-    pub who: List<u32>,
+    /// The finished goals, in that order.
+    pub finished: Vec<Finished>,
     /// Whether some entry found every cell taken.
     pub full: bool,
     /// The goal in the least place that is ready.

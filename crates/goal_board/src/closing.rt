@@ -1,11 +1,10 @@
-ghost use Rattle.std.specs.Prelude.{◌≡◌, ◌≢◌, ◌==◌, ℕ, ◌+◌, ◌-◌, ◌*◌, ◌^◌, ◌<◌, ◌≤◌, [], ◌∷◌, ◌++◌, cond, IfOk, OnOk};
-ghost use Rattle.std.specs.Prelude.{length, not};
+ghost use Rattle.std.specs.Prelude.{◌≡◌, ◌==◌, ◌+◌, ◌*◌, ◌^◌, ◌<◌, ◌≤◌, [], ◌∷◌, ◌++◌, cond, IfOk, OnOk};
 ghost use Rattle.std.specs.Slots.{slots_items, slots_len, IsFull};
 ghost use Rattle.board_rule.specs.Words.{mem};
-ghost use Rattle.goal_board.specs.Closed.{HasWorkers, with_closed, ReadsReady};
+ghost use Rattle.goal_board.specs.Closed.{HasWorkers, with_closed, finished_with, ReadsReady};
 ghost use Rattle.goal_board.specs.Closing.{ReadsPlaces, ReadsFirstReady};
 
-use crate::answers::{Answer, Closed};
+use crate::answers::{Answer, Closed, Finished};
 use crate::steps::{CLOSED, cell_at, cost_at, head_at, node_at, run_at, who_at};
 use board_rule::{GoalRules, Setup};
 use orca_base::List;
@@ -20,32 +19,27 @@ fn push_taken(cells: &mut List<u64>, word: u64) -> Result<(), AllocError>
     if word == 0 { Ok(()) } else { cells.push(word) }
 }
 
-// Adds the answer of a goal, where its head is closed.
+// Adds a goal with its answer and its worker, where its head is closed.
 fn push_closed(
-    answers: &mut List<(u64, Answer)>,
+    finished: &mut Vec<Finished>,
     head: u64,
     goal: u64,
     answer: Answer,
+    who: u64,
 ) -> Result<(), AllocError>
-    ensures { OnOk result (answers.new ≡ with_closed head answers.old (goal, answer)) }
-{
-    if head >= CLOSED {
-        answers.push((goal, answer))
-    } else {
-        Ok(())
-    }
-}
-
-// Adds the worker of a goal, where its head is closed.
-fn push_worker(workers: &mut List<u32>, head: u64, who: u64) -> Result<(), AllocError>
     requires { 2 ^ 63 ≤ head → (1 ≤ who) × (who ≤ 64) }
-    ensures { OnOk result (workers.new ≡ with_closed head workers.old (who - 1)) }
+    ensures { OnOk result
+        (finished.new.items ≡ with_closed head finished.old.items (finished_with goal answer who)) }
 {
-    if head >= CLOSED {
-        workers.push((who - 1) as u32)
-    } else {
-        Ok(())
+    if head < CLOSED {
+        return Ok(());
     }
+    finished.push(Finished {
+        goal,
+        answer,
+        who: (who - 1) as u32,
+    })?;
+    Ok(())
 }
 
 // The goal at a place, if it is ready.
@@ -104,8 +98,8 @@ fn read_place<R: GoalRules>(
         node: words.word(node_at(place)),
     };
     push_taken(&mut closed.cells, word)?;
-    push_closed(&mut closed.answers, head, word, answer)?;
-    push_worker(&mut closed.who, head, words.word(who_at(place)))?;
+    let who = words.word(who_at(place));
+    push_closed(&mut closed.finished, head, word, answer, who)?;
     closed.ready = first_ready(closed.ready, words, setup, place);
     Ok(())
 }
@@ -121,10 +115,10 @@ pub fn read_all<R: GoalRules>(
     ensures { IfOk result
         (ReadsPlaces R.meaning setup.now (slots_items words.now.words) setup.now.capacity) }
 {
+    let cells = setup.capacity as usize;
     let mut closed = Closed {
-        cells: List::new(alloc),
-        answers: List::new(alloc),
-        who: List::new(alloc),
+        cells: List::of(Vec::with_capacity(alloc, cells)?),
+        finished: Vec::with_capacity(alloc, cells)?,
         full: words.word(0) != 0,
         ready: None,
     };

@@ -13,7 +13,7 @@ mod wait_steps;
 mod waits;
 mod waking;
 
-pub use answers::{Answer, Awaited, Closed, Suspended, Woken};
+pub use answers::{Answer, Awaited, Closed, Finished, Suspended, Woken};
 pub use board::{Board, Right, Seat};
 pub use board_rule::GoalRules;
 pub use hints::Hints;

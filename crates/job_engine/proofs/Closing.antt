@@ -6,9 +6,9 @@ use Rattle.query_core.specs.declared.query.Query.{Query}
 use Rattle.board_rule.specs.Words.{Mem, mem, cell_word}
 use Rattle.board_rule.specs.Looks.{Looked}
 use Rattle.board_rule.specs.declared.hands.Hands.{Hands}
-use Rattle.goal_board.specs.Closed.{ClosesWith, answers_below, with_closed}
+use Rattle.goal_board.specs.Closed.{ClosesWith, finished_at, finished_below, with_closed}
 use Rattle.goal_board.specs.declared.answers.Closed.{Closed}
-use Rattle.goal_board.specs.declared.answers.Answer.{Answer}
+use Rattle.goal_board.specs.declared.answers.Finished.{Finished}
 use Rattle.goal_rules.specs.declared.rules.Rules.{Rules}
 use Rattle.job_turns.specs.Searches.{rules_mean}
 use Rattle.job_outcome.specs.Outcomes.{ClosesSearch, IsOutcome, IsDoneCase, IsFullCase, IsEnd}
@@ -43,7 +43,7 @@ full_ends (Done members goals answers who) is = absurd is
 full_ends (Full told) is = tt
 full_ends (Unfinished goal) is = absurd is
 
--- there are no more answers than places
+-- there are no more finished goals than places
 one_more : {A : Type 0} → (head : ℕ) (items : List A) (item : A)
     → length (with_closed head items item) ≤ length items + 1
 one_more {A} head items item = by_closed (nat_le (2 ^ 63) head)
@@ -52,20 +52,16 @@ one_more {A} head items item = by_closed (nat_le (2 ^ 63) head)
     by_closed true = let long = length-append items (item ∷ []) in omega (arith, long)
     by_closed false = omega arith
 
-answers_few : (m : Mem) (n : ℕ) → length (answers_below m n) ≤ n
-answers_few m zero = omega arith
-answers_few m (suc n) = omega (
-  arith,
-  answers_few m n,
-  one_more (m.head n) (answers_below m n) (m.cell n, record { cost = m.cost n; node = m.node n }),
-)
+few_below : (m : Mem) (n : ℕ) → length (finished_below m n) ≤ n
+few_below m zero = omega arith
+few_below m (suc n) = omega (arith, few_below m n, one_more (m.head n) (finished_below m n) (finished_at m n))
 
-answers_fit : (q : Query) (capacity place : ℕ) (v : Hands Rules) (closed : Closed)
+finished_fit : (q : Query) (capacity place : ℕ) (v : Hands Rules) (closed : Closed)
     → ClosesSearch q capacity place v closed
-    → length closed.answers ≤ capacity
-answers_fit q capacity place v closed its =
-    let few = answers_few (mem its.closes.words) capacity in
-    let same = ap (λ (l : List (ℕ × Answer)). length l) its.closes.reads.answers in
+    → length closed.finished.items ≤ capacity
+finished_fit q capacity place v closed its =
+    let few = few_below (mem its.closes.words) capacity in
+    let same = ap (λ (l : List Finished). length l) its.closes.reads.finished in
     omega (arith, few, same)
 
 -- and no more goals were finished than the board has cells
@@ -74,5 +70,5 @@ pub finished_few : (q : Query) (capacity place : ℕ) (v : Hands Rules) (closed 
     → IsOutcome q capacity (mem its.closes.words).cell v.done closed outcome → finished_count closed outcome ≤ capacity
 finished_few q capacity place v closed its (Done members goals answers who) is = let few = is.1.fits.few in
     omega (arith, few)
-finished_few q capacity place v closed its (Full told) is = answers_fit q capacity place v closed its
-finished_few q capacity place v closed its (Unfinished goal) is = answers_fit q capacity place v closed its
+finished_few q capacity place v closed its (Full told) is = finished_fit q capacity place v closed its
+finished_few q capacity place v closed its (Unfinished goal) is = finished_fit q capacity place v closed its

@@ -48,7 +48,7 @@ run_ends known q cells capacity n (Unfinished goal) last run = absurd run.ended
 pub is_noted : (q : Query) (cells capacity n : ℕ) (outcome : Outcome) (last : Option (ℕ × ℕ × ℕ))
     → IsRun q cells capacity n outcome last → IsNoted capacity n outcome last
 is_noted q cells capacity n (Done members goals answers who) last run = run.noted
-is_noted q cells capacity n (Full told) last run = (length run.gives.closed.answers, run.noted)
+is_noted q cells capacity n (Full told) last run = (length run.gives.closed.finished.items, run.noted)
 is_noted q cells capacity n (Unfinished goal) last run = absurd run.ended
 
 -- a run that finished all goals on fewer cells is one of the whole capacity

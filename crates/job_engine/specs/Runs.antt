@@ -48,8 +48,8 @@ IsNoted capacity n (Unfinished goal) last = ⊥
 -- how many goals were finished
 abbrev pub finished_count : Closed → Outcome → ℕ
 finished_count closed (Done members goals answers who) = length goals
-finished_count closed (Full told) = length closed.answers
-finished_count closed (Unfinished goal) = length closed.answers
+finished_count closed (Full told) = length closed.finished.items
+finished_count closed (Unfinished goal) = length closed.finished.items
 
 -- the outcome is of a board of that many cells whose last seat has in its list what n workers finished; the note has
 -- the capacity and counts the goals that were finished on the board

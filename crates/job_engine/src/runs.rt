@@ -101,15 +101,15 @@ fn close_board<'q>(
         capacity: _,
     } = engine;
     let closed = scheduler.close(alloc, worker)?;
-    let answers = closed.answers.len();
+    let held = closed.finished.len();
     let outcome = outcome_of(alloc, rules.query, root, cells, closed)?;
-    let finished = goals_finished(&outcome, answers);
+    let finished = goals_finished(&outcome, held);
     Ok((outcome, finished as u32))
 }
 
-// How many goals were finished, of a board with so many answers.
-fn goals_finished(outcome: &Outcome, answers: usize) -> usize
-    ensures { (closed : AnyClosed) → answers ≡ length closed.answers →
+// How many goals were finished, of a board that held so many of them.
+fn goals_finished(outcome: &Outcome, held: usize) -> usize
+    ensures { (closed : AnyClosed) → held ≡ length closed.finished.items →
         result ≡ finished_count closed outcome.now }
 {
     match outcome {
@@ -119,7 +119,7 @@ fn goals_finished(outcome: &Outcome, answers: usize) -> usize
             answers: _,
             who: _,
         } => goals.len(),
-        Outcome::Full { capacity: _ } => answers,
-        Outcome::Unfinished { ready: _ } => answers,
+        Outcome::Full { capacity: _ } => held,
+        Outcome::Unfinished { ready: _ } => held,
     }
 }

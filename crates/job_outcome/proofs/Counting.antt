@@ -15,10 +15,10 @@ use Rattle.xform_rules.specs.Closure.{IsClosureOf}
 use Rattle.goal_space.specs.Entries.{IsEntry}
 use Rattle.goal_children.specs.Listed.{AreGoalsOf}
 use Rattle.board_rule.specs.Words.{Mem}
-use Rattle.goal_board.specs.Closed.{cells_below}
+use Rattle.goal_board.specs.Closed.{cells_below, finished_at, finished_below}
 use Rattle.job_outcome.specs.Outcomes.{HasMoreEntries, FitsIn}
 use Rattle.job_outcome.specs.Finished.{is_member_word}
-use Rattle.job_outcome.proofs.Places.{finished_at, finished_below, by_cell, by_head}
+use Rattle.job_outcome.proofs.Places.{by_cell, by_head}
 
 abbrev members_in : List ℕ → ℕ
 members_in cells = length (filter is_member_word cells)

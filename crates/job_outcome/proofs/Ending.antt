@@ -25,14 +25,14 @@ use Rattle.goal_space.specs.Answers.{AreAnswers, TellsAnswer, words_told}
 use Rattle.goal_children.specs.Listed.{AreGoalsOf}
 use Rattle.board_rule.specs.Records.{Ended}
 use Rattle.board_rule.specs.Words.{Mem}
-use Rattle.goal_board.specs.Closed.{cells_below}
+use Rattle.goal_board.specs.Closed.{cells_below, finished_at, finished_below}
 use Rattle.goal_board.specs.declared.answers.Closed.{Closed}
 use Rattle.job_outcome.specs.Outcomes.{HasFinishedRoot, IsFinisher, IsDone}
-use Rattle.job_outcome.specs.Finished.{is_member_word, pairs_of, told_of, IsOrdered}
-use Rattle.job_outcome.specs.declared.finished.Finished.{Finished}
+use Rattle.job_outcome.specs.Finished.{is_member_word, told_of, IsOrdered}
+use Rattle.goal_board.specs.declared.answers.Finished.{Finished}
 use Rattle.job_outcome.proofs.Lists.{all_zip_maps, contains_filter, contains_map, distinct_filter}
-use Rattle.job_outcome.proofs.Places.{all_below, all_cells, cells_differ, contains_below, contains_cell, finished_at}
-use Rattle.job_outcome.proofs.Places.{finished_below, goal_in, goals_differ, pairs_below}
+use Rattle.job_outcome.proofs.Places.{all_below, all_cells, cells_differ, contains_below, contains_cell, goal_in}
+use Rattle.job_outcome.proofs.Places.{goals_differ}
 use Rattle.job_outcome.proofs.Finishing.{all_finished, all_stand, goal_at, high_at, member_entry, taken_at}
 use Rattle.job_outcome.proofs.Told.{tells}
 use Rattle.job_outcome.proofs.Counting.{few_below}
@@ -64,10 +64,9 @@ module _ (q : Query) (capacity place : ℕ) (m : Mem) (done : List Ended) (close
     (its : ReadsSearch q capacity place m done closed) (has : HasFinishedRoot q closed) where
   -- ---- the goals
 
-  module _ (finished : List Finished) (same : IsPermutation (pairs_of closed.answers closed.who) finished) where
+  module _ (finished : List Finished) (same : IsPermutation closed.finished.items finished) where
     moved : IsPermutation (finished_below m capacity) finished
-    moved = subst (λ (l : List Finished). IsPermutation l finished) ((λ i. pairs_of (its.answers i) (its.who i))
-        ∙ pairs_below m capacity) same
+    moved = subst (λ (l : List Finished). IsPermutation l finished) its.finished same
 
     -- what holds of each goal with a closed head holds of each in the list
     each_goal : (Fact : Finished → Type 0) → ((p : ℕ) → p < capacity → 2 ^ 63 ≤ m.head p → Fact (finished_at m p))

@@ -1,6 +1,6 @@
 -- The outcome by its three cases.
 use Rattle.std.proofs.Common.{◌≡◌, ℕ, nat_eq, true, false, List, ◌∷◌, Some, refl, sym, subst, arith, leb-true, ne_eqb}
-use Rattle.std.proofs.Common.{map, Contains, ◌∙◌}
+use Rattle.std.proofs.Common.{◌∙◌}
 use Rattle.std.proofs.lemmas.Bool.{false_from_ne_true}
 use Rattle.std.proofs.lemmas.List.Elements.{All-cons, recursion_from_All}
 use Rattle.std.proofs.lemmas.Map.Keys.{IsDistinct-cons}
@@ -18,10 +18,10 @@ use Rattle.goal_rules.specs.Meaning.{meaning_of}
 use Rattle.board_rule.specs.Records.{Ended}
 use Rattle.board_rule.specs.Words.{Mem}
 use Rattle.goal_board.specs.Closed.{cells_below, IsFirstReady}
-use Rattle.goal_board.specs.declared.answers.Answer.{Answer}
 use Rattle.goal_board.specs.declared.answers.Closed.{Closed}
-use Rattle.job_outcome.specs.Outcomes.{HasFinishedRoot, HasMoreEntries, FitsIn, IsFinished, IsFullFor, IsOutcome}
-use Rattle.job_outcome.specs.Outcomes.{IsUnfinished, IsFullCase}
+use Rattle.goal_board.specs.declared.answers.Finished.{Finished}
+use Rattle.job_outcome.specs.Outcomes.{HasGoal, HasFinishedRoot, HasMoreEntries, FitsIn, IsFinished, IsFullFor}
+use Rattle.job_outcome.specs.Outcomes.{IsOutcome, IsUnfinished, IsFullCase}
 use Rattle.job_outcome.specs.Finished.{Orders}
 use Rattle.job_outcome.specs.declared.outcome.Outcome.{Outcome}
 use Rattle.job_outcome.specs.declared.outcome.Outcome.TheVariants.{Done, Full, Unfinished}
@@ -97,17 +97,14 @@ full_case q capacity cell done closed full (Unfinished goal) is =
     absurd (let no : false ≡ true = sym is.not_full ∙ full in cc)
 
 -- the root's goal was found among those that are finished
-pub has_root : (q : Query) (closed : Closed) (answers : List (ℕ × Answer)) (root : ℕ) → answers ≡ closed.answers
-    → root ≡ goal_word (root_goal_of q)
-    → Contains (map (λ (x : ℕ × Answer). x.0) answers) root → HasFinishedRoot q closed
-has_root q closed answers root same is has =
-    subst (Contains (map (λ (x : ℕ × Answer). x.0) closed.answers)) is
-    (subst (λ (l : List (ℕ × Answer)). Contains (map (λ (x : ℕ × Answer). x.0) l) root) same has)
+pub has_root : (q : Query) (closed : Closed) (finished : List Finished) (root : ℕ) → finished ≡ closed.finished.items
+    → root ≡ goal_word (root_goal_of q) → HasGoal finished root → HasFinishedRoot q closed
+has_root q closed finished root same is has =
+    subst (HasGoal closed.finished.items) is (subst (λ (l : List Finished). HasGoal l root) same has)
 
 -- or it was not
-pub has_no_root : (q : Query) (closed : Closed) (answers : List (ℕ × Answer)) (root : ℕ) → answers ≡ closed.answers
-    → root ≡ goal_word (root_goal_of q)
-    → (Contains (map (λ (x : ℕ × Answer). x.0) answers) root → ⊥) → HasFinishedRoot q closed → ⊥
-has_no_root q closed answers root same is none has =
-    none (subst (λ (l : List (ℕ × Answer)). Contains (map (λ (x : ℕ × Answer). x.0) l) root) (sym same)
-    (subst (Contains (map (λ (x : ℕ × Answer). x.0) closed.answers)) (sym is) has))
+pub has_no_root : (q : Query) (closed : Closed) (finished : List Finished) (root : ℕ)
+    → finished ≡ closed.finished.items → root ≡ goal_word (root_goal_of q) → (HasGoal finished root → ⊥)
+    → HasFinishedRoot q closed → ⊥
+has_no_root q closed finished root same is none has =
+    none (subst (λ (l : List Finished). HasGoal l root) (sym same) (subst (HasGoal closed.finished.items) (sym is) has))

@@ -1,9 +1,9 @@
 -- What is read of a board's words, one place after the other.
 use Rattle.std.proofs.Common.{◌≡◌, ◌≢◌, ◌==◌, ℕ, zero, suc, ◌+◌, ◌-◌, ◌^◌, ◌<◌, ◌≤◌, nat_le, nat_eq, Bool, true, false}
-use Rattle.std.proofs.Common.{cond, List, [], ◌∷◌, ◌++◌, map, length, get_or, take, All, Contains, refl, sym, subst, ap}
+use Rattle.std.proofs.Common.{cond, List, [], ◌∷◌, ◌++◌, map, All, Contains, refl, sym, subst, ap}
 use Rattle.std.proofs.Common.{◌∙◌, arith, ◌⊎◌, inl, inr, leb-true, leb-false, eqb-true, ne_eqb}
 use Rattle.std.specs.List.{IsDistinct}
-use Rattle.std.proofs.lemmas.List.{length-append, length-take-le, map-append, take_more}
+use Rattle.std.proofs.lemmas.List.{map-append}
 use Rattle.std.proofs.lemmas.List.Elements.{All-nil, All-push, All-map, Contains-push, Contains-append_left}
 use Rattle.std.proofs.lemmas.List.Folds.{list_any_none}
 use Rattle.std.proofs.lemmas.Map.Keys.{IsDistinct-push}
@@ -11,101 +11,12 @@ use Rattle.std.proofs.lemmas.Bool.{eqb-false}
 use Rattle.std.proofs.lemmas.Cmp.{nat_eq_equiv}
 use Rattle.word_table.specs.Probing.{IsWordSet}
 use Rattle.board_rule.specs.Words.{Mem}
-use Rattle.goal_board.specs.declared.answers.Answer.{Answer}
-use Rattle.goal_board.specs.Closed.{cells_below, answers_below, who_below, with_closed}
-use Rattle.job_outcome.specs.declared.finished.Finished.{Finished}
-use Rattle.job_outcome.specs.Finished.{pairs_of}
+use Rattle.goal_board.specs.declared.answers.Finished.{Finished}
+use Rattle.goal_board.specs.Closed.{cells_below, finished_at, finished_below, with_closed}
 use Rattle.job_outcome.proofs.Lists.{distinct_nil}
-
--- the goal at a place, with its answer and its worker
-abbrev pub finished_at : Mem → ℕ → Finished
-finished_at m p = record { goal = m.cell p; answer = record { cost = m.cost p; node = m.node p }; who = m.who p - 1 }
-
--- those at places below a number whose heads are closed
-abbrev pub finished_below : Mem → ℕ → List Finished
-finished_below m zero = []
-finished_below m (suc n) = with_closed (m.head n) (finished_below m n) (finished_at m n)
 
 abbrev pub goal_in : Finished → ℕ
 goal_in f = f.goal
-
--- ---- goals with their answers and workers
-
-pairs_push : (answers : List (ℕ × Answer)) (who : List ℕ) (x : ℕ × Answer) (worker : ℕ) → length answers ≡ length who
-    → pairs_of (answers ++ x ∷ []) (who ++ worker ∷ []) ≡ pairs_of answers who ++ record {
-      goal = x.0;
-      answer = x.1;
-      who = worker;
-    } ∷ []
-pairs_push [] [] x worker same = refl
-pairs_push [] (w ∷ who) x worker same = absurd (omega (arith, same))
-pairs_push (y ∷ answers) [] x worker same = absurd (omega (arith, same))
-pairs_push (y ∷ answers) (w ∷ who) x worker same =
-    ap (λ l. record { goal = y.0; answer = y.1; who = w } ∷ l) (pairs_push answers who x worker (omega (arith, same)))
-
--- what is made of the first of each list, and then of the next ones
-pub pairs_next : (answers : List (ℕ × Answer)) (who : List ℕ) (i : ℕ) (x : ℕ × Answer) (worker : ℕ)
-    (made after : List Finished) → length who ≡ length answers → i < length answers
-    → made ≡ pairs_of (take i answers) (take i who)
-    → after ≡ made ++ record {
-      goal = (get_or answers i x).0;
-      answer = (get_or answers i x).1;
-      who = get_or who i worker;
-    } ∷ []
-    → after ≡ pairs_of (take (i + 1) answers) (take (i + 1) who)
-pairs_next answers who i x worker made after same within so_far is =
-    let first = length-take-le i answers (omega (arith, within)) in
-    let second = length-take-le i who (omega (arith, within, same)) in
-    is ∙ ap (λ l. l ++ record {
-      goal = (get_or answers i x).0;
-      answer = (get_or answers i x).1;
-      who = get_or who i worker;
-    } ∷ []) so_far
-    ∙ sym (pairs_push (take i answers) (take i who) (get_or answers i x) (get_or who i worker) (first ∙ sym second))
-    ∙ sym (λ j. pairs_of (take_more answers i x within j) (take_more who i worker (omega (arith, within, same)) j))
-
--- as many answers as workers are read
-lengths_by : (b : Bool) (answers : List (ℕ × Answer)) (who : List ℕ) (x : ℕ × Answer) (worker : ℕ)
-    → length answers ≡ length who
-    → length (cond b (answers ++ x ∷ []) answers) ≡ length (cond b (who ++ worker ∷ []) who)
-lengths_by true answers who x worker same = length-append answers (x ∷ []) ∙ ap (λ n. n + 1) same
-    ∙ sym (length-append who (worker ∷ []))
-lengths_by false answers who x worker same = same
-
-pub lengths_below : (m : Mem) (n : ℕ) → length (answers_below m n) ≡ length (who_below m n)
-lengths_below m zero = refl
-lengths_below m (suc n) = lengths_by (nat_le (2 ^ 63) (m.head n)) (answers_below m n) (who_below m n) _ _
-    (lengths_below m n)
-
-pairs_by : (b : Bool) (answers : List (ℕ × Answer)) (who : List ℕ) (finished : List Finished) (x : ℕ × Answer)
-    (worker : ℕ) → length answers ≡ length who → pairs_of answers who ≡ finished
-    → pairs_of (cond b (answers ++ x ∷ []) answers) (cond b (who ++ worker ∷ []) who) ≡ cond b
-    (finished ++ record { goal = x.0; answer = x.1; who = worker } ∷ []) finished
-pairs_by true answers who finished x worker same is = pairs_push answers who x worker same
-    ∙ ap (λ l. l ++ record { goal = x.0; answer = x.1; who = worker } ∷ []) is
-pairs_by false answers who finished x worker same is = is
-
--- the answers and workers that are read are those of the finished goals
-pub pairs_below : (m : Mem) (n : ℕ) → pairs_of (answers_below m n) (who_below m n) ≡ finished_below m n
-pairs_below m zero = refl
-pairs_below m (suc n) = pairs_by (nat_le (2 ^ 63) (m.head n)) (answers_below m n) (who_below m n) (finished_below m n) _
-    _ (lengths_below m n) (pairs_below m n)
-
-goals_by : (b : Bool) (answers : List (ℕ × Answer)) (finished : List Finished) (x : ℕ × Answer) (f : Finished)
-    → x.0 ≡ f.goal → map (λ (y : ℕ × Answer). y.0) answers ≡ map goal_in finished
-    → map (λ (y : ℕ × Answer). y.0) (cond b (answers ++ x ∷ []) answers) ≡ map goal_in
-    (cond b (finished ++ f ∷ []) finished)
-goals_by true answers finished x f same is =
-    map-append (λ (y : ℕ × Answer). y.0) answers (x ∷ []) ∙ (λ i. is i ++ same i ∷ [])
-    ∙ sym (map-append goal_in finished (f ∷ []))
-goals_by false answers finished x f same is = is
-
--- so are the goals
-pub goals_below : (m : Mem) (n : ℕ) → map (λ (y : ℕ × Answer). y.0) (answers_below m n) ≡ map goal_in
-    (finished_below m n)
-goals_below m zero = refl
-goals_below m (suc n) = goals_by (nat_le (2 ^ 63) (m.head n)) (answers_below m n) (finished_below m n) _
-    (finished_at m n) refl (goals_below m n)
 
 -- ---- by the head of a place, and by its cell
 

@@ -1,5 +1,5 @@
 -- What was read of the closed board of a query's search, and the words that it was read of.
-use Rattle.std.proofs.Common.{◌≡◌, ◌≢◌, ℕ, ◌^◌, ◌<◌, ◌≤◌, true, List, map, length, Contains, None, refl, sym, subst, ap}
+use Rattle.std.proofs.Common.{◌≡◌, ◌≢◌, ℕ, ◌^◌, ◌<◌, ◌≤◌, true, List, map, Contains, None, refl, sym, subst, ap}
 use Rattle.std.proofs.Common.{◌∙◌, arith, inl, inr, IsTrue, le-leb}
 use Rattle.query_core.specs.Goals.{goal_bit, has_goal_bit}
 use Rattle.query_core.specs.declared.query.Query.{Query}
@@ -15,14 +15,12 @@ use Rattle.board_rule.specs.Waiters.{IsLater}
 use Rattle.board_rule.specs.Seats.{Among}
 use Rattle.board_rule.specs.Rule.{AreCells, HoldsGoal, IsFull, IsRecorded, KeepsPromises, Stays}
 use Rattle.board_rule.specs.declared.hands.Hands.{Hands}
-use Rattle.goal_board.specs.Closed.{cells_below, answers_below, who_below, IsFirstReady}
-use Rattle.goal_board.specs.declared.answers.Answer.{Answer}
+use Rattle.goal_board.specs.Closed.{cells_below, finished_at, finished_below, IsFirstReady}
 use Rattle.goal_board.specs.declared.answers.Closed.{Closed}
 use Rattle.job_outcome.specs.Outcomes.{ClosesSearch, HasFinishedRoot}
-use Rattle.job_outcome.specs.declared.finished.Finished.{Finished}
+use Rattle.goal_board.specs.declared.answers.Finished.{Finished}
 use Rattle.job_outcome.proofs.Lists.{contains_map, contains_unmap}
-use Rattle.job_outcome.proofs.Places.{all_below, contains_below, finished_at, finished_below, goal_in, goals_below}
-use Rattle.job_outcome.proofs.Places.{lengths_below}
+use Rattle.job_outcome.proofs.Places.{all_below, contains_below, goal_in}
 use Rattle.job_outcome.proofs.Finishing.{Finishes, Searched}
 use Rattle.std.proofs.lemmas.List.Elements.{All-contains}
 
@@ -37,8 +35,7 @@ pub record ReadsSearch (q : Query) (capacity place : ℕ) (m : Mem) (done : List
   pub finished_by : (p : ℕ) → p < capacity → 2 ^ 63 ≤ m.head p → (e : Ended) × Among done e × (e.place ≡ p)
       × IsRecorded capacity m.head m.cost m.node m.who e
   pub cells : closed.cells ≡ cells_below m capacity
-  pub answers : closed.answers ≡ answers_below m capacity
-  pub who : closed.who ≡ who_below m capacity
+  pub finished : closed.finished.items ≡ finished_below m capacity
   pub ready : IsFirstReady (meaning_of q) m capacity closed.ready
 
 -- a head that is later than a closed one is closed
@@ -73,8 +70,7 @@ module _ (q : Query) (capacity place : ℕ) (v : Hands Rules) (closed : Closed)
         none_ready = its.closes.none_ready;
         finished_by = its.closes.finished_by;
         cells = its.closes.reads.cells;
-        answers = its.closes.reads.answers;
-        who = its.closes.reads.who;
+        finished = its.closes.reads.finished;
         ready = subst (λ (x : Query). IsFirstReady (meaning_of x) m capacity closed.ready) same its.closes.reads.ready;
       }
 
@@ -86,12 +82,8 @@ module _ (q : Query) (capacity place : ℕ) (v : Hands Rules) (closed : Closed)
 module _ (q : Query) (capacity place : ℕ) (m : Mem) (done : List Ended) (closed : Closed)
     (its : ReadsSearch q capacity place m done closed) where
   -- the goals that were read are those of the finished ones
-  pub goals_read : map (λ (x : ℕ × Answer). x.0) closed.answers ≡ map goal_in (finished_below m capacity)
-  goals_read = ap (map (λ (x : ℕ × Answer). x.0)) its.answers ∙ goals_below m capacity
-
-  -- and there are as many workers
-  pub as_many_workers : length closed.who ≡ length closed.answers
-  as_many_workers = ap length its.who ∙ sym (lengths_below m capacity) ∙ sym (ap length its.answers)
+  pub goals_read : map goal_in closed.finished.items ≡ map goal_in (finished_below m capacity)
+  goals_read = ap (map goal_in) its.finished
 
   abbrev IsPlaced : Finished → Type 0
   IsPlaced f = (p : ℕ) × (p < capacity) × (2 ^ 63 ≤ m.head p) × (f.goal ≡ m.cell p)

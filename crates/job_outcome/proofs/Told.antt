@@ -14,7 +14,7 @@ use Rattle.goal_space.specs.declared.goals.GoalKind.{GoalKind}
 use Rattle.goal_space.specs.declared.goals.GoalKind.TheVariants.{Exp, ExpE, Xf, Imp, ImpE, Opt, OptE}
 use Rattle.goal_rules.specs.Answers.{AreWordsOf, IsAnswerWord}
 use Rattle.job_outcome.specs.Finished.{cost_told, told_of}
-use Rattle.job_outcome.specs.declared.finished.Finished.{Finished}
+use Rattle.goal_board.specs.declared.answers.Finished.{Finished}
 
 -- what chooses no plan costs nothing
 free : (best : Best) → Some best ≡ no_choice → best.cost ≤ most_of_all

@@ -1,24 +1,17 @@
 -- What a closed board held, in the order of words: cited by private functions alone.
-use Rattle.std.specs.Prelude.{◌≡◌, ◌==◌, ℕ, ◌-◌, ◌^◌, Bool, not, List, [], ◌∷◌, map, cond, Option, None, Some}
+use Rattle.std.specs.Prelude.{◌≡◌, ◌==◌, ℕ, ◌-◌, ◌^◌, Bool, not, List, map, cond, Option, None, Some}
 use Rattle.std.specs.List.{filter}
 use Rattle.std.specs.List.Sorted.{IsPermutation, IsNonDecreasing, IsNonDecreasingBy}
 use Rattle.query_core.specs.Goals.{has_goal_bit}
 use Rattle.plan_tree.specs.declared.answers.Answered.{Answered}
-use Rattle.goal_board.specs.declared.answers.Answer.{Answer}
 use Rattle.goal_board.specs.declared.answers.Closed.{Closed}
-use Rattle.job_outcome.specs.declared.finished.Finished.{Finished}
+use Rattle.goal_board.specs.declared.answers.Finished.{Finished}
 use Rattle.job_outcome.specs.declared.outcome.Outcome.{Outcome}
 use Rattle.job_outcome.specs.declared.outcome.Outcome.TheVariants.{Done, Full, Unfinished}
 
 -- words of members lack the bit of goals
 abbrev pub is_member_word : ℕ → Bool
 is_member_word word = not (has_goal_bit word)
-
--- goals and their answers with their workers
-abbrev pub pairs_of : List (ℕ × Answer) → List ℕ → List Finished
-pairs_of [] who = []
-pairs_of (x ∷ answers) [] = []
-pairs_of (x ∷ answers) (worker ∷ who) = record { goal = x.0; answer = x.1; who = worker } ∷ pairs_of answers who
 
 -- no cost where it is the greatest number
 abbrev pub cost_told : ℕ → Option ℕ
@@ -30,7 +23,7 @@ told_of f = record { goal = record { 0 = f.goal }; node = record { 0 = f.answer.
 -- the members among the cells, ascending, and what is finished, ascending by the goals
 pub record IsOrdered (closed : Closed) (members goals : List ℕ) (answers : List Answered) (who : List ℕ) : Type 0 where
   pub finished : List Finished
-  pub same : IsPermutation (pairs_of closed.answers closed.who) finished
+  pub same : IsPermutation closed.finished.items finished
   pub ascending : IsNonDecreasingBy (λ (f : Finished). f.goal) finished
   pub same_members : IsPermutation (filter is_member_word closed.cells) members
   pub rising : IsNonDecreasing members

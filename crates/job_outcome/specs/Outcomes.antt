@@ -15,8 +15,8 @@ use Rattle.board_rule.specs.Looks.{Looked}
 use Rattle.board_rule.specs.Seats.{Among}
 use Rattle.board_rule.specs.declared.hands.Hands.{Hands}
 use Rattle.goal_board.specs.Closed.{ClosesWith}
-use Rattle.goal_board.specs.declared.answers.Answer.{Answer}
 use Rattle.goal_board.specs.declared.answers.Closed.{Closed}
+use Rattle.goal_board.specs.declared.answers.Finished.{Finished}
 use Rattle.goal_rules.specs.Meaning.{meaning_of}
 use Rattle.goal_rules.specs.declared.rules.Rules.{Rules}
 use Rattle.job_outcome.specs.declared.outcome.Outcome.{Outcome}
@@ -48,13 +48,13 @@ pub record ClosesSearch (q : Query) (capacity place : ℕ) (v : Hands Rules) (cl
   pub near : place < capacity
   pub root : Looked v.looks (cell_word place) (goal_word (root_goal_of q))
 
--- the goal is one of those with answers
-abbrev pub HasAnswer : List (ℕ × Answer) → ℕ → Type 0
-HasAnswer answers goal = Contains (map (λ (x : ℕ × Answer). x.0) answers) goal
+-- the goal is one of these
+abbrev pub HasGoal : List Finished → ℕ → Type 0
+HasGoal finished goal = Contains (map (λ (f : Finished). f.goal) finished) goal
 
 -- the goal is among those that are finished
 abbrev pub HasFinished : Closed → ℕ → Type 0
-HasFinished closed goal = HasAnswer closed.answers goal
+HasFinished closed goal = HasGoal closed.finished.items goal
 
 -- the root's goal is finished
 abbrev pub HasFinishedRoot : Query → Closed → Type 0

@@ -1,25 +1,17 @@
 //! Finished goals in the order of their words.
 #![tactic(auto)]
 
-ghost use Rattle.std.specs.Prelude.{◌≡◌, IfOk, length, map};
+ghost use Rattle.std.specs.Prelude.{◌≡◌, IfOk, map};
 ghost use Rattle.std.specs.List.{filter};
 ghost use Rattle.std.specs.List.Sorted.{IsPermutation, IsNonDecreasing, IsNonDecreasingBy};
-ghost use Rattle.job_outcome.specs.Finished.{is_member_word, pairs_of, told_of};
-ghost use Rattle.job_outcome.specs.declared.finished.Finished.{Finished as AnyFinished};
+ghost use Rattle.job_outcome.specs.Finished.{is_member_word, told_of};
+ghost use Rattle.goal_board.specs.declared.answers.Finished.{Finished as AnyFinished};
 
-use goal_board::Answer;
+use goal_board::Finished;
 use orca_base::List;
 use plan_tree::{Answered, Answers, Node};
 use query_core::Goal;
 use std::alloc::{AllocError, Global};
-
-/// A goal, with its answer and the worker that finished it.
-#[derive(Clone, Copy)]
-pub struct Finished {
-    pub goal: u64,
-    pub answer: Answer,
-    pub who: u32,
-}
 
 /// The members among these words, ascending.
 pub fn members_of(alloc: Global, cells: &[u64]) -> Result<List<u64>, AllocError>
@@ -36,28 +28,7 @@ pub fn members_of(alloc: Global, cells: &[u64]) -> Result<List<u64>, AllocError>
     Ok(List::of(members))
 }
 
-/// Finished goals with their answers and their workers.
-pub fn finished_of(
-    alloc: Global,
-    answers: &[(u64, Answer)],
-    who: &[u32],
-) -> Result<Vec<Finished>, AllocError>
-    requires { length who.now ≡ length answers.now }
-    ensures { IfOk result (λ finished. finished.items ≡ pairs_of answers.now who.now) }
-{
-    let mut finished = Vec::with_capacity(alloc, answers.len())?;
-    for place in 0..answers.len() {
-        let (goal, answer) = answers[place];
-        finished.push_reserved(Finished {
-            goal,
-            answer,
-            who: who[place],
-        });
-    }
-    Ok(finished)
-}
-
-/// The same goals in the order of their words.
+/// These goals in the order of their words.
 pub fn in_order(finished: Vec<Finished>) -> Vec<Finished>
     ensures same { IsPermutation finished.items result.items }
     ensures ascending { IsNonDecreasingBy (λ (f : AnyFinished). f.goal) result.items }
@@ -76,23 +47,16 @@ pub fn lists_of(
     ensures answers { IfOk result (λ lists. lists.1.list ≡ map told_of finished.now) }
     ensures workers { IfOk result (λ lists. lists.2 ≡ map (λ (f : AnyFinished). f.who) finished.now) }
 {
-    let goals = finished.iter().map(|one| one.goal).collect(alloc)?;
-    let list = answers_of(alloc, finished)?;
-    let who = finished.iter().map(|one| one.who).collect(alloc)?;
-    Ok((
-        List::of(goals),
-        Answers {
-            list: List::of(list),
-        },
-        List::of(who),
-    ))
-}
-
-// The answers to these goals.
-fn answers_of(alloc: Global, finished: &[Finished]) -> Result<Vec<Answered>, AllocError>
-    ensures { IfOk result (λ list. list.items ≡ map told_of finished.now) }
-{
-    finished.iter().map(|one| told(one)).collect(alloc)
+    let mut goals = Vec::with_capacity(alloc, finished.len())?;
+    let mut answers = Vec::with_capacity(alloc, finished.len())?;
+    let mut who = Vec::with_capacity(alloc, finished.len())?;
+    for one in finished {
+        goals.push(one.goal)?;
+        answers.push(told(one))?;
+        who.push(one.who)?;
+    }
+    let list = List::of(answers);
+    Ok((List::of(goals), Answers { list }, List::of(who)))
 }
 
 // The answer in its two words says that there is no plan where the cost is the greatest number.

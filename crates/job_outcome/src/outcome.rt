@@ -1,19 +1,19 @@
 //! What a search gave: the answers to all goals, or that the board was full, or that goals are left.
 #![tactic(auto)]
 
-ghost use Rattle.std.specs.Prelude.{◌≡◌, ℕ, IfOk, length, true, false};
+ghost use Rattle.std.specs.Prelude.{◌≡◌, ℕ, IfOk, true, false};
 ghost use Rattle.board_rule.specs.Words.{mem};
 ghost use Rattle.board_rule.specs.Looks.{ShowsClosed, ShowsFull};
 ghost use Rattle.board_rule.specs.declared.hands.Hands.{Hands};
 ghost use Rattle.goal_rules.specs.declared.rules.Rules.{Rules};
 ghost use Rattle.goal_space.specs.Words.{goal_word};
 ghost use Rattle.goal_space.specs.Goals.{root_goal_of};
-ghost use Rattle.job_outcome.specs.Outcomes.{ClosesSearch, HasAnswer, IsOutcome, IsDoneCase, IsFullCase};
+ghost use Rattle.job_outcome.specs.Outcomes.{ClosesSearch, HasGoal, IsOutcome, IsDoneCase, IsFullCase};
 ghost use Rattle.job_outcome.specs.Finished.{Orders};
 
-use crate::finished::{finished_of, in_order, lists_of, members_of};
+use crate::finished::{in_order, lists_of, members_of};
 use best_answers::answers_are_best;
-use goal_board::{Answer, Closed};
+use goal_board::{Closed, Finished};
 use goal_space::{goals_are_known, goals_ask_for_members};
 use orca_base::List;
 use plan_tree::Answers;
@@ -72,8 +72,8 @@ pub fn outcome_of(
     goals_ask_for_members();
     members_are_known();
     answers_are_best();
-    if is_finished(closed.answers.as_slice(), root.0) {
-        return done(alloc, &closed);
+    if is_finished(closed.finished.as_slice(), root.0) {
+        return done(alloc, closed);
     }
     if closed.full {
         return Ok(Outcome::Full { capacity });
@@ -85,12 +85,12 @@ pub fn outcome_of(
 }
 
 // Whether the goal is among those that are finished.
-fn is_finished(answers: &[(u64, Answer)], goal: u64) -> bool
-    ensures found { result ≡ true → HasAnswer answers.now goal }
-    ensures absent { result ≡ false → HasAnswer answers.now goal → ⊥ }
+fn is_finished(finished: &[Finished], goal: u64) -> bool
+    ensures found { result ≡ true → HasGoal finished.now goal }
+    ensures absent { result ≡ false → HasGoal finished.now goal → ⊥ }
 {
-    for (finished, _) in answers {
-        if *finished == goal {
+    for one in finished {
+        if one.goal == goal {
             return true;
         }
     }
@@ -98,13 +98,11 @@ fn is_finished(answers: &[(u64, Answer)], goal: u64) -> bool
 }
 
 // What the board held, in the order of words.
-fn done(alloc: Global, closed: &Closed) -> Result<Outcome, AllocError>
-    requires { length closed.now.who ≡ length closed.now.answers }
-    ensures { IfOk result (Orders closed.now) }
+fn done(alloc: Global, closed: Closed) -> Result<Outcome, AllocError>
+    ensures { IfOk result (Orders closed) }
 {
     let members = members_of(alloc, closed.cells.as_slice())?;
-    let finished = finished_of(alloc, closed.answers.as_slice(), closed.who.as_slice())?;
-    let (goals, answers, who) = lists_of(alloc, &in_order(finished))?;
+    let (goals, answers, who) = lists_of(alloc, &in_order(closed.finished))?;
     Ok(Outcome::Done {
         members,
         goals,

@@ -165,7 +165,9 @@ fn refused_queries_are_told_the_first_fault(rt: HostRuntime) -> Result<(), Fail>
 const BOUND: &str =
     "SELECT T1.a FROM T1, T2 | 0.a/1000 1.a/1000 where links 0-1 group output 0 order
 SELECT a AS b FROM T2 ORDER BY b | 0.a/1000 where links group output 0 order 0+
-SELECT b AS x, COUNT(*), SUM(T2.a) AS s FROM T2, T1 AS u WHERE T2.b = 5 AND u.a = T2.a GROUP BY b, b ORDER BY s DESC, x, b DESC | 0.a/1000 0.b/500 1.a/1000 where 1:n 2:i0 links 1-0 group 1 output 1 3 4 order 4- 1+
+SELECT b AS x, COUNT(*), SUM(T2.a) AS s FROM T2, T1 AS u WHERE T2.b = 5 AND u.a = T2.a \
+    GROUP BY b, b ORDER BY s DESC, x, b DESC | \
+    0.a/1000 0.b/500 1.a/1000 where 1:n 2:i0 links 1-0 group 1 output 1 3 4 order 4- 1+
 ";
 
 #[test]

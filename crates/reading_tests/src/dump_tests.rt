@@ -20,7 +20,10 @@ capacity 131072
 root one
 off
 print memo
-catalog {\"version\":2,\"segments\":4,\"tables\":[{\"name\":\"T1\",\"rows\":1000,\"distribution\":[\"a\"],\"columns\":[{\"name\":\"a\",\"ndv\":1000}]},{\"name\":\"T2\",\"rows\":1000,\"distribution\":[\"a\"],\"columns\":[{\"name\":\"a\",\"ndv\":1000},{\"name\":\"b\",\"ndv\":500}]}]}
+catalog {\"version\":2,\"segments\":4,\"tables\":[\
+    {\"name\":\"T1\",\"rows\":1000,\"distribution\":[\"a\"],\"columns\":[{\"name\":\"a\",\"ndv\":1000}]},\
+    {\"name\":\"T2\",\"rows\":1000,\"distribution\":[\"a\"],\
+    \"columns\":[{\"name\":\"a\",\"ndv\":1000},{\"name\":\"b\",\"ndv\":500}]}]}
 query SELECT T1.a FROM T1, T2 WHERE T1.a = T2.b ORDER BY T1.a
 ";
 
@@ -30,7 +33,9 @@ capacity 64
 root spread
 off JoinCommute+PartialToHash
 print memo trace
-catalog {\"version\":2,\"segments\":4,\"tables\":[{\"name\":\"T2\",\"rows\":1000,\"distribution\":[\"a\"],\"columns\":[{\"name\":\"a\",\"ndv\":1000},{\"name\":\"b\",\"ndv\":500}]}]}
+catalog {\"version\":2,\"segments\":4,\"tables\":[\
+    {\"name\":\"T2\",\"rows\":1000,\"distribution\":[\"a\"],\
+    \"columns\":[{\"name\":\"a\",\"ndv\":1000},{\"name\":\"b\",\"ndv\":500}]}]}
 query SELECT b
 FROM T2 -- all
 ";

@@ -3,10 +3,16 @@ use query_generator::{GenShape, generate};
 use std::test::Fail;
 
 const ONE_TABLE: &str =
-    "{\"version\":1,\"segments\":4,\"tables\":[{\"name\":\"t0\",\"rows\":14900,\"distribution\":[\"id\"],\"columns\":[{\"name\":\"id\",\"ndv\":14900},{\"name\":\"f\",\"ndv\":250}]}]}";
+    "{\"version\":1,\"segments\":4,\"tables\":[\
+    {\"name\":\"t0\",\"rows\":14900,\"distribution\":[\"id\"],\
+    \"columns\":[{\"name\":\"id\",\"ndv\":14900},{\"name\":\"f\",\"ndv\":250}]}]}";
 
 const TWO_TABLES: &str =
-    "{\"version\":1,\"segments\":4,\"tables\":[{\"name\":\"t0\",\"rows\":14900,\"distribution\":[\"id\"],\"columns\":[{\"name\":\"id\",\"ndv\":14900},{\"name\":\"f\",\"ndv\":250}]},{\"name\":\"t1\",\"rows\":5730500,\"distribution\":\"random\",\"columns\":[{\"name\":\"id\",\"ndv\":5730500},{\"name\":\"f\",\"ndv\":45}]}]}";
+    "{\"version\":1,\"segments\":4,\"tables\":[\
+    {\"name\":\"t0\",\"rows\":14900,\"distribution\":[\"id\"],\
+    \"columns\":[{\"name\":\"id\",\"ndv\":14900},{\"name\":\"f\",\"ndv\":250}]},\
+    {\"name\":\"t1\",\"rows\":5730500,\"distribution\":\"random\",\
+    \"columns\":[{\"name\":\"id\",\"ndv\":5730500},{\"name\":\"f\",\"ndv\":45}]}]}";
 
 // A number, a count of tables, and the catalogue.
 const CATALOGS: [(u64, u32, &str); 3] = [

@@ -9,7 +9,10 @@ use std::test::Fail;
 
 /// A table of two columns, the first with a histogram of two buckets.
 pub const HISTOGRAM: &str =
-    "{\"version\":2,\"segments\":4,\"tables\":[{\"name\":\"t\",\"rows\":1000,\"distribution\":[\"a\"],\"columns\":[{\"name\":\"a\",\"ndv\":100,\"histogram\":{\"low\":1,\"buckets\":[{\"upto\":10,\"rows\":100},{\"upto\":100,\"rows\":900}]}},{\"name\":\"b\",\"ndv\":10}]}]}";
+    "{\"version\":2,\"segments\":4,\"tables\":[\
+    {\"name\":\"t\",\"rows\":1000,\"distribution\":[\"a\"],\"columns\":[{\"name\":\"a\",\"ndv\":100,\
+    \"histogram\":{\"low\":1,\"buckets\":[{\"upto\":10,\"rows\":100},{\"upto\":100,\"rows\":900}]}},\
+    {\"name\":\"b\",\"ndv\":10}]}]}";
 
 // In each line what is replaced in this text, by what, and what is said then.
 const CHANGES: &str = r#""version" | "version" | read
@@ -90,7 +93,9 @@ fn version_one_passes_histograms_over(rt: HostRuntime) -> Result<(), Fail> {
 fn said_of_buckets(alloc: Global, count: u64) -> Result<String, AllocError> {
     let buckets = numbered(alloc, "{\"rows\":1,\"upto\":", "}", count)?;
     let text = [
-        "{\"version\":2,\"segments\":4,\"tables\":[{\"name\":\"t\",\"rows\":1000,\"distribution\":\"random\",\"columns\":[{\"name\":\"a\",\"ndv\":100,\"histogram\":{\"low\":0,\"buckets\":[",
+        "{\"version\":2,\"segments\":4,\"tables\":[\
+        {\"name\":\"t\",\"rows\":1000,\"distribution\":\"random\",\"columns\":[{\"name\":\"a\",\"ndv\":100,\
+        \"histogram\":{\"low\":0,\"buckets\":[",
         &buckets,
         "]}}]}]}",
     ]

@@ -10,14 +10,23 @@ use std::test::Fail;
 const NO_TABLES: &str = "{\"version\":1,\"segments\":1,\"tables\":[]}";
 
 const WITH_INDEXES: &str =
-    "{\"version\":1,\"segments\":4,\"tables\":[{\"name\":\"t\",\"rows\":0,\"distribution\":\"random\",\"columns\":[{\"name\":\"a\",\"ndv\":100},{\"name\":\"b\",\"ndv\":0}],\"indexes\":[[\"b\",\"a\"],[\"a\"]]}]}";
+    "{\"version\":1,\"segments\":4,\"tables\":[\
+    {\"name\":\"t\",\"rows\":0,\"distribution\":\"random\",\
+    \"columns\":[{\"name\":\"a\",\"ndv\":100},{\"name\":\"b\",\"ndv\":0}],\
+    \"indexes\":[[\"b\",\"a\"],[\"a\"]]}]}";
 
 const REPLICATED: &str =
-    "{\"version\":2,\"segments\":4,\"tables\":[{\"name\":\"t\",\"rows\":10,\"distribution\":\"replicated\",\"columns\":[{\"name\":\"a\",\"ndv\":10}],\"indexes\":[[\"a\"]]}]}";
+    "{\"version\":2,\"segments\":4,\"tables\":[\
+    {\"name\":\"t\",\"rows\":10,\"distribution\":\"replicated\",\"columns\":[{\"name\":\"a\",\"ndv\":10}],\
+    \"indexes\":[[\"a\"]]}]}";
 
 // The least and the greatest numbers.
 const WIDE_HISTOGRAM: &str =
-    "{\"version\":2,\"segments\":4,\"tables\":[{\"name\":\"t\",\"rows\":10,\"distribution\":\"random\",\"columns\":[{\"name\":\"a\",\"ndv\":10,\"histogram\":{\"low\":-9223372036854775808,\"buckets\":[{\"upto\":-9223372036854775808,\"rows\":0},{\"upto\":-1,\"rows\":1},{\"upto\":0,\"rows\":2},{\"upto\":9223372036854775807,\"rows\":1000000000000}]}}]}]}";
+    "{\"version\":2,\"segments\":4,\"tables\":[\
+    {\"name\":\"t\",\"rows\":10,\"distribution\":\"random\",\"columns\":[{\"name\":\"a\",\"ndv\":10,\
+    \"histogram\":{\"low\":-9223372036854775808,\"buckets\":[{\"upto\":-9223372036854775808,\"rows\":0},\
+    {\"upto\":-1,\"rows\":1},{\"upto\":0,\"rows\":2},\
+    {\"upto\":9223372036854775807,\"rows\":1000000000000}]}}]}]}";
 
 // What is written in the version of the catalogue that the text says, or no bytes where the version can't say it.
 fn rewritten(alloc: Global, text: &str, version: CatalogVersion) -> Result<Vec<u8>, Fail> {

@@ -1,7 +1,8 @@
 //! The clauses of a query, and a whole query.
 
 ghost use Rattle.std.specs.Prelude.{◌≡◌};
-ghost use Rattle.sql_reader.specs.Reading.{items_at, tables_at, preds_at, group_columns_at, keys_at, where_at, group_by_at, order_by_at, body_at, query_at};
+ghost use Rattle.sql_reader.specs.Reading.{items_at, tables_at, preds_at, group_columns_at, keys_at, where_at};
+ghost use Rattle.sql_reader.specs.Reading.{group_by_at, order_by_at, body_at, query_at};
 ghost use Rattle.sql_reader.specs.Doing.{Does};
 
 use crate::faults::Limit;

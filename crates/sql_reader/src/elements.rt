@@ -1,7 +1,8 @@
 //! The elements of the lists.
 
 ghost use Rattle.std.specs.Prelude.{◌≡◌};
-ghost use Rattle.sql_reader.specs.Reading.{counts, column_at, argument_at, call_at, expr_at, output_at, item_at, table_at, operand_at, pred_at, direction_at, key_at};
+ghost use Rattle.sql_reader.specs.Reading.{counts, column_at, argument_at, call_at, expr_at, output_at, item_at};
+ghost use Rattle.sql_reader.specs.Reading.{table_at, operand_at, pred_at, direction_at, key_at};
 ghost use Rattle.sql_reader.specs.Query.{func_of, aliased_table};
 ghost use Rattle.sql_reader.specs.Doing.{Does};
 

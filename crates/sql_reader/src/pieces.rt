@@ -1,12 +1,15 @@
 //! The piece at the front of a text: a blank, a comment, or what spells a token.
 
-ghost use Rattle.std.specs.Prelude.{◌≡◌, ℕ, ◌<◌, ◌≤◌, ◌^◌, ◌∷◌, length, map, false, List, Option, Some, None, IfOk, IfSome};
+ghost use Rattle.std.specs.Prelude.{◌≡◌, ℕ, ◌<◌, ◌≤◌, ◌^◌, ◌∷◌, length, map, false, List};
+ghost use Rattle.std.specs.Prelude.{Option, Some, None, IfOk, IfSome};
 ghost use Rattle.std.specs.Option.{option_map};
 ghost use Rattle.sql_reader.specs.Lexing.{shown, named_kind, signed};
 ghost use Rattle.sql_reader.specs.Words.{word_of};
 ghost use Rattle.sql_reader.specs.Pieces.{in_comment};
 ghost use Rattle.sql_reader.specs.Bytes.{is_digit};
-ghost use Rattle.sql_reader.specs.Cutting.{name_cut, digits_cut, comment_cut, minus_cut, short_cut, long_cut, sign_cut, quoting_of, piece_cut, integer_cut, magnitude_of, begins_with, IsPiece, IsQuoted, quoted_cut};
+ghost use Rattle.sql_reader.specs.Cutting.{name_cut, digits_cut, comment_cut, minus_cut, short_cut, long_cut};
+ghost use Rattle.sql_reader.specs.Cutting.{sign_cut, quoting_of, piece_cut, integer_cut, magnitude_of, begins_with};
+ghost use Rattle.sql_reader.specs.Cutting.{IsPiece, IsQuoted, quoted_cut};
 ghost use Rattle.std.specs.List.{prefix_len};
 ghost use Rattle.sql_reader.specs.declared.tokens.Kind.TheVariants as kinds;
 ghost use Rattle.orca_base.specs.Name.{continues_name};

@@ -10,14 +10,17 @@ use std::thread::Threads;
 const DUMP: &str = "dump c.json q.sql";
 
 // A dump of the running example, with the memo.
-const JOIN_DUMP: &str = r#"orca dump 1
+const JOIN_DUMP: &str = "orca dump 1
 capacity 131072
 root one
 off
 print memo
-catalog {"version":2,"segments":4,"tables":[{"name":"T1","rows":1000,"distribution":["a"],"columns":[{"name":"a","ndv":1000}]},{"name":"T2","rows":1000,"distribution":["a"],"columns":[{"name":"a","ndv":1000},{"name":"b","ndv":500}]}]}
+catalog {\"version\":2,\"segments\":4,\"tables\":[\
+    {\"name\":\"T1\",\"rows\":1000,\"distribution\":[\"a\"],\"columns\":[{\"name\":\"a\",\"ndv\":1000}]},\
+    {\"name\":\"T2\",\"rows\":1000,\"distribution\":[\"a\"],\
+    \"columns\":[{\"name\":\"a\",\"ndv\":1000},{\"name\":\"b\",\"ndv\":500}]}]}
 query SELECT T1.a FROM T1, T2 WHERE T1.a = T2.b ORDER BY T1.a
-"#;
+";
 
 #[test]
 fn a_query_is_dumped(rt: HostRuntime) -> Result<(), Fail> {
@@ -57,17 +60,20 @@ fn a_dump_is_replayed_as_it_was_planned(rt: HostRuntime) -> Result<(), Fail> {
     )
 }
 
-const INDEXED: &str =
-    r#"{"version":1,"segments":4,"tables":[{"name":"t","rows":1000,"distribution":"random","columns":[{"name":"a","ndv":100}],"indexes":[["a"]]}]}"#;
+const INDEXED: &str = r#"{"version":1,"segments":4,"tables":[
+{"name":"t","rows":1000,"distribution":"random","columns":[{"name":"a","ndv":100}],"indexes":[["a"]]}]}"#;
 
-const HUGE: &str =
-    r#"{"version":1,"segments":4,"tables":[{"name":"T1","rows":1000000000000,"distribution":"random","columns":[{"name":"a","ndv":1}]},{"name":"T2","rows":1000000000000,"distribution":"random","columns":[{"name":"b","ndv":1}]}]}"#;
+const HUGE: &str = r#"{"version":1,"segments":4,"tables":[
+{"name":"T1","rows":1000000000000,"distribution":"random","columns":[{"name":"a","ndv":1}]},
+{"name":"T2","rows":1000000000000,"distribution":"random","columns":[{"name":"b","ndv":1}]}]}"#;
 
-const COPIED: &str =
-    r#"{"version":2,"segments":4,"tables":[{"name":"b","rows":100000,"distribution":"random","columns":[{"name":"x","ndv":1000}]},{"name":"s","rows":10,"distribution":"replicated","columns":[{"name":"y","ndv":10}]}]}"#;
+const COPIED: &str = r#"{"version":2,"segments":4,"tables":[
+{"name":"b","rows":100000,"distribution":"random","columns":[{"name":"x","ndv":1000}]},
+{"name":"s","rows":10,"distribution":"replicated","columns":[{"name":"y","ndv":10}]}]}"#;
 
-const COUNTED: &str =
-    r#"{"version":2,"segments":4,"tables":[{"name":"t","rows":1000,"distribution":"random","columns":[{"name":"a","ndv":100,"histogram":{"low":1,"buckets":[{"upto":10,"rows":100},{"upto":100,"rows":900}]}}]}]}"#;
+const COUNTED: &str = r#"{"version":2,"segments":4,"tables":[
+{"name":"t","rows":1000,"distribution":"random","columns":[{"name":"a","ndv":100,
+"histogram":{"low":1,"buckets":[{"upto":10,"rows":100},{"upto":100,"rows":900}]}}]}]}"#;
 
 #[test]
 fn a_dump_has_all_that_the_plan_depends_on(rt: HostRuntime) -> Result<(), Fail> {

@@ -3,14 +3,14 @@ use Rattle.goal_board.specs.Seats.{hands}
 use Rattle.board_tests.proofs.Still.{rights_read, parts_read}
 use Rattle.board_tests.proofs.call_tests.answer_at.Goals as goal
 
-pub returns-clause-rights : goal.returns-clause-rights
-returns-clause-rights g c =
-    rights_read (g.R.GoalRules.meaning c.args.board.now.setup.rules) c.args.board.now.setup.capacity
-    (hands c.args.seat.now)
-    c.args.at c.answer.result (hands c.answer.new.seat) c.answer.ensures.answer
-
-pub returns-clause-parts : goal.returns-clause-parts
-returns-clause-parts g c =
-    parts_read (g.R.GoalRules.meaning c.args.board.now.setup.rules) c.args.board.now.setup.capacity
-    (hands c.args.seat.now)
-    c.args.at c.answer.result (hands c.answer.new.seat) c.answer.ensures.answer
+pub returns-clause-seat : goal.returns-clause-seat
+returns-clause-seat g c =
+    let meaning = g.R.GoalRules.meaning c.args.board.now.setup.rules in
+    let capacity = c.args.board.now.setup.capacity in
+    let before = hands c.args.seat.now in
+    let after = hands c.answer.new.seat in
+    record {
+      of_board = c.answer.ensures.seat;
+      rights = rights_read meaning capacity before c.args.at c.answer.result after c.answer.ensures.answer;
+      parts = parts_read meaning capacity before c.args.at c.answer.result after c.answer.ensures.answer;
+    }

@@ -3,12 +3,13 @@ use Rattle.goal_board.specs.Seats.{hands}
 use Rattle.board_tests.proofs.Still.{parts_stay, rights_stay}
 use Rattle.board_tests.proofs.call_tests.put_in.Goals as goal
 
-pub returns-clause-parts : goal.returns-clause-parts
-returns-clause-parts g c = parts_stay c.args.board.now.setup.capacity (hands c.args.seat.now) c.args.word
-    c.insert.result
-    (hands c.insert.new.seat) c.insert.ensures.answer
-
-pub returns-clause-rights : goal.returns-clause-rights
-returns-clause-rights g c = rights_stay c.args.board.now.setup.capacity (hands c.args.seat.now) c.args.word
-    c.insert.result
-    (hands c.insert.new.seat) c.insert.ensures.answer
+pub returns-clause-seat : goal.returns-clause-seat
+returns-clause-seat g c =
+    let capacity = c.args.board.now.setup.capacity in
+    let before = hands c.args.seat.now in
+    let after = hands c.insert.new.seat in
+    record {
+      of_board = c.insert.ensures.seat;
+      rights = rights_stay capacity before c.args.word c.insert.result after c.insert.ensures.answer;
+      parts = parts_stay capacity before c.args.word c.insert.result after c.insert.ensures.answer;
+    }

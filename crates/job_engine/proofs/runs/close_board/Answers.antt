@@ -1,5 +1,5 @@
 -- The last worker has seen the end, so something was found that is no more to do.
-use Rattle.std.proofs.Common.{arith}
+use Rattle.std.proofs.Common.{◌∙◌, arith}
 use Rattle.goal_board.specs.Seats.{hands}
 use Rattle.job_engine.proofs.Ending.{last_closes, few_finished, last_run}
 use Rattle.job_engine.proofs.runs.close_board.Goals as goal
@@ -17,18 +17,20 @@ overflow_cast-result c =
     let e = c.args.engine in
     let closed = c.in_ok-closed.closed in
     let outcome = c.in_ok-outcome.outcome in
+    let counted = c.len-held.ensures ∙ closed.finished.ok.0 in
     let its = last_closes e c.args._n c.args.worker c.requires closed c.in_ok-closed.ensures in
     let few = few_finished e c.args._n c.args.worker c.requires closed outcome its
     (c.in_ok-outcome.ensures.outcome e.scheduler.root (hands c.args.worker.seat) its) in
-    omega (arith, few, e.few, c.goals_finished-finished.ensures closed c.len-answers.ensures)
+    omega (arith, few, e.few, c.goals_finished-finished.ensures closed counted)
 
 pub returns : goal.returns
 returns c =
     let e = c.args.engine in
     let v = hands c.args.worker.seat in
     let closed = c.in_ok-closed.closed in
+    let counted = c.len-held.ensures ∙ closed.finished.ok.0 in
     let its = last_closes e c.args._n c.args.worker c.requires closed c.in_ok-closed.ensures in
     last_run e c.args._n c.args.worker c.requires closed c.in_ok-outcome.outcome its
     (c.in_ok-outcome.ensures.outcome e.scheduler.root v its)
     (c.in_ok-outcome.ensures.finished e.scheduler.root v its) (c.in_ok-outcome.ensures.full e.scheduler.root v its)
-    c.goals_finished-finished.result (c.goals_finished-finished.ensures closed c.len-answers.ensures)
+    c.goals_finished-finished.result (c.goals_finished-finished.ensures closed counted)

@@ -1,6 +1,6 @@
 use Rattle.std.proofs.Common.{rules}
 use Rattle.std.proofs.lemmas.List.Sorted.{IsNonDecreasingBy-from_sort_by_key}
-use Rattle.job_outcome.specs.declared.finished.Finished.{Finished}
+use Rattle.goal_board.specs.declared.answers.Finished.{Finished}
 use Rattle.job_outcome.proofs.finished.in_order.Goals as goal
 
 -- the key of each is its goal

@@ -7,25 +7,16 @@ use Rattle.goal_rules.specs.declared.rules.Rules.{Rules}
 use Rattle.job_outcome.specs.Outcomes.{ClosesSearch, IsOutcome, IsFullCase}
 use Rattle.job_outcome.specs.Finished.{Orders}
 use Rattle.job_outcome.specs.declared.outcome.Outcome.{Outcome}
-use Rattle.job_outcome.proofs.Reading.{as_many_workers, finished_root, none_left, reads_search, shown_closed}
+use Rattle.job_outcome.proofs.Reading.{finished_root, none_left, reads_search, shown_closed}
 use Rattle.job_outcome.proofs.Outcomes.{done_outcome, full_case, has_no_root, has_root, is_full, is_unfinished}
 use Rattle.job_outcome.proofs.outcome.outcome_of.Goals as goal
-
--- each finished goal has its answer and its worker
-pub done-requires : goal.done-requires
-done-requires c =
-    let (place, v, its) = c.requires.closed in
-    let q = c.args.query.now in
-    let closed = c.args.closed in
-    as_many_workers q c.args.capacity place (mem its.closes.words) v.done closed
-    (reads_search q c.args.capacity place v closed its)
 
 -- the root's goal was found
 pub returns-then-is_finished-clause-outcome : goal.returns-then-is_finished-clause-outcome
 returns-then-is_finished-clause-outcome c =
     let q = c.args.query.now in
     let closed = c.args.closed in
-    let has = has_root q closed c.as_slice.result.now c.args.root.0 c.as_slice.ensures c.requires.root
+    let has = has_root q closed c.as_slice.result.now c.args.root.0 c.as_slice.ensures.value c.requires.root
     (c.is_finished.ensures.found c.if-is_finished.true) in
     IfOk-weaker c.done.result (Orders closed)
     (λ (outcome : Outcome). (place : ℕ) (v : Hands Rules) (its : ClosesSearch q c.args.capacity place v closed)
@@ -41,7 +32,7 @@ pub returns-then-is_finished-clause-full : goal.returns-then-is_finished-clause-
 returns-then-is_finished-clause-full c =
     let q = c.args.query.now in
     let closed = c.args.closed in
-    let has = has_root q closed c.as_slice.result.now c.args.root.0 c.as_slice.ensures c.requires.root
+    let has = has_root q closed c.as_slice.result.now c.args.root.0 c.as_slice.ensures.value c.requires.root
     (c.is_finished.ensures.found c.if-is_finished.true) in
     IfOk-weaker c.done.result (Orders closed) (λ (outcome : Outcome). (place : ℕ) (v : Hands Rules)
     → ClosesSearch q c.args.capacity place v closed → ShowsFull v.looks → IsFullCase outcome)
@@ -59,7 +50,7 @@ pub returns-then-closed-clause-outcome : goal.returns-then-closed-clause-outcome
 returns-then-closed-clause-outcome c place v its =
     let q = c.args.query.now in
     let closed = c.args.closed in
-    let open_root = has_no_root q closed c.as_slice.result.now c.args.root.0 c.as_slice.ensures c.requires.root
+    let open_root = has_no_root q closed c.as_slice.result.now c.args.root.0 c.as_slice.ensures.value c.requires.root
     (c.is_finished.ensures.absent c.if-is_finished.false) in
     is_full q c.args.capacity place (mem its.closes.words) v.done closed
     (reads_search q c.args.capacity place v closed its)
@@ -70,7 +61,7 @@ pub returns-then-closed-clause-finished : goal.returns-then-closed-clause-finish
 returns-then-closed-clause-finished c place v its shown =
     let q = c.args.query.now in
     let closed = c.args.closed in
-    has_no_root q closed c.as_slice.result.now c.args.root.0 c.as_slice.ensures c.requires.root
+    has_no_root q closed c.as_slice.result.now c.args.root.0 c.as_slice.ensures.value c.requires.root
     (c.is_finished.ensures.absent c.if-is_finished.false)
     (finished_root q c.args.capacity place (mem its.closes.words) v.done closed
     (reads_search q c.args.capacity place v closed its) (shown_closed q c.args.capacity place v closed its shown))
@@ -81,7 +72,7 @@ unreachable-requires c =
     let (place, v, its) = c.requires.closed in
     let q = c.args.query.now in
     let closed = c.args.closed in
-    has_no_root q closed c.as_slice.result.now c.args.root.0 c.as_slice.ensures c.requires.root
+    has_no_root q closed c.as_slice.result.now c.args.root.0 c.as_slice.ensures.value c.requires.root
     (c.is_finished.ensures.absent c.if-is_finished.false)
     (none_left q c.args.capacity place (mem its.closes.words) v.done closed
     (reads_search q c.args.capacity place v closed its)
@@ -91,7 +82,7 @@ pub returns-clause-outcome : goal.returns-clause-outcome
 returns-clause-outcome c place v its =
     let q = c.args.query.now in
     let closed = c.args.closed in
-    let open_root = has_no_root q closed c.as_slice.result.now c.args.root.0 c.as_slice.ensures c.requires.root
+    let open_root = has_no_root q closed c.as_slice.result.now c.args.root.0 c.as_slice.ensures.value c.requires.root
     (c.is_finished.ensures.absent c.if-is_finished.false) in
     is_unfinished q c.args.capacity place (mem its.closes.words) v.done closed
     (reads_search q c.args.capacity place v closed its)
@@ -102,7 +93,7 @@ pub returns-clause-finished : goal.returns-clause-finished
 returns-clause-finished c place v its shown =
     let q = c.args.query.now in
     let closed = c.args.closed in
-    has_no_root q closed c.as_slice.result.now c.args.root.0 c.as_slice.ensures c.requires.root
+    has_no_root q closed c.as_slice.result.now c.args.root.0 c.as_slice.ensures.value c.requires.root
     (c.is_finished.ensures.absent c.if-is_finished.false)
     (finished_root q c.args.capacity place (mem its.closes.words) v.done closed
     (reads_search q c.args.capacity place v closed its) (shown_closed q c.args.capacity place v closed its shown))
