@@ -13,7 +13,7 @@ use Rattle.xform_rules.specs.declared.rules.Rule.TheVariants as rules
 use Rattle.xform_rules.specs.Rules.{IsOn}
 use Rattle.xform_rules.specs.Forms.{logical_in, physical_in}
 use Rattle.xform_rules.specs.Closure.{IsMember, result}
-use Rattle.xform_rules.specs.JoinRules.{HasCrossing}
+use Rattle.xform_rules.specs.Implemented.{HasCrossing}
 use Rattle.xform_rules.specs.Splits.{AreJoinRulesOn, HasJoin}
 use Rattle.plan_space.specs.Lines.{merge_line}
 use Rattle.plan_space.specs.declared.modes.Mode.{Mode}
@@ -45,10 +45,10 @@ module _ (q : Query) (splits : (set a b : ℕ) → AreJoinRulesOn q → IsGroup 
   pub merge_member : IsOn q rules.JoinToMerge → HasCrossing q l r → IsMember q (physical_in g (physical.MergeJoin l r))
   merge_member merges crosses =
       result (logical_in g (logical.Join l r)) (physical_in g (physical.MergeJoin l r)) rules.JoinToMerge 0 split_member
-      (record { on = merges; group = refl; gives = (refl, (l, r, (refl, crosses), refl)) })
+      (record { on = merges; group = refl; gives = (refl, refl, ((refl, refl), (l, r, refl, crosses))) })
 
   -- and their loop join
   pub loop_member : IsOn q rules.JoinToLoop → IsMember q (physical_in g (physical.LoopJoin l r))
   loop_member loops =
       result (logical_in g (logical.Join l r)) (physical_in g (physical.LoopJoin l r)) rules.JoinToLoop 0 split_member
-      (record { on = loops; group = refl; gives = (refl, (l, r, refl, refl)) })
+      (record { on = loops; group = refl; gives = (refl, refl, (refl, refl)) })
