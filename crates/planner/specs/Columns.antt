@@ -4,13 +4,15 @@ use Rattle.std.specs.Prelude.{if◌then◌else◌}
 use Rattle.query_core.specs.Crossing.{crossing_by}
 use Rattle.query_core.specs.declared.query.Query.{Query}
 use Rattle.query_core.specs.declared.words.KeyParts.{KeyParts}
-use Rattle.query_core.specs.declared.expressions.Physical.{Physical}
-use Rattle.query_core.specs.declared.expressions.Physical.TheVariants as physical
+use Rattle.query_core.specs.declared.expressions.Access.{Access}
+use Rattle.query_core.specs.declared.expressions.Access.TheVariants as accesses
+use Rattle.query_core.specs.declared.expressions.Logical.{Logical}
+use Rattle.query_core.specs.declared.expressions.Logical.TheVariants as logical
 use Rattle.query_core.specs.declared.expressions.PhysicalExpr.{PhysicalExpr}
 use Rattle.query_text.specs.Columns.{computed_text}
 use Rattle.request_props.specs.Numbered.{list_of, order_of}
 use Rattle.request_props.specs.Satisfied.{index_columns}
-use Rattle.query_core.specs.Expressions.{table_in}
+use Rattle.query_core.specs.Expressions.{access, implements, table_in}
 use Rattle.plan_space.specs.declared.nodes.Enforcer.{Enforcer}
 use Rattle.plan_space.specs.declared.nodes.Enforcer.TheVariants as enforcers
 use Rattle.plan_space.specs.declared.nodes.NodeKind.{NodeKind}
@@ -37,18 +39,19 @@ both_sides (Some sides) = sides.0 ∷ sides.1 ∷ []
 abbrev pub join_columns : Query → KeyParts → KeyParts → List ℕ
 join_columns q left right = flat_map (λ pred. both_sides (crossing_by q left right pred)) q.preds
 
--- of an operator that makes rows of this table, if it makes a table's
-abbrev pub operator_columns : Query → Physical → ℕ → List ℕ
-operator_columns q physical.Scan table = []
-operator_columns q (physical.IndexScan index) table = index_columns q table index
-operator_columns q (physical.Filter child) table = []
-operator_columns q (physical.IndexSeek index) table = index_columns q table index
-operator_columns q (physical.HashJoin left right) table = join_columns q left right
-operator_columns q (physical.MergeJoin left right) table = join_columns q left right
-operator_columns q (physical.LoopJoin left right) table = join_columns q left right
-operator_columns q (physical.HashAgg child) table = q.group_by
-operator_columns q (physical.StreamAgg child) table = q.group_by
-operator_columns q (physical.PartialAgg child) table = q.group_by
+-- of a logical operator: those that it joins by, or groups by
+abbrev pub logical_columns : Query → Logical → List ℕ
+logical_columns q logical.Get = []
+logical_columns q (logical.Select child) = []
+logical_columns q logical.NJoin = []
+logical_columns q (logical.Join left right) = join_columns q left right
+logical_columns q (logical.Agg child) = q.group_by
+logical_columns q (logical.Partial child) = q.group_by
+
+-- of an operator of a group that implements this, and comes to its rows so: by an index, that one's
+abbrev pub columns_by : Query → KeyParts → Logical → Access → List ℕ
+columns_by q group o accesses.Direct = logical_columns q o
+columns_by q group o (accesses.Index index) = index_columns q (table_in group) index
 
 -- the columns of an enforcer's order or of its hashed list
 abbrev pub enforcer_columns : Query → Enforcer → List PlanColumn
@@ -60,7 +63,8 @@ enforcer_columns q (enforcers.Redistribute list) = map (column_at q) (list_of q 
 
 -- those of an expression's operator, by name
 abbrev pub native_columns : Query → PhysicalExpr → List PlanColumn
-native_columns q e = map (column_at q) (operator_columns q e.operator (table_in e.group))
+native_columns q e =
+    map (column_at q) (columns_by q e.group (implements e.group e.operator) (access e.operator))
 
 -- the columns of a node
 abbrev pub columns_of : Query → NodeKind → List PlanColumn

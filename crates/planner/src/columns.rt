@@ -8,12 +8,12 @@ ghost use Rattle.request_props.specs.Satisfied.{index_columns as columns_of_inde
 ghost use Rattle.query_text.specs.Columns.{computed_text as computed};
 ghost use Rattle.planner.specs.Columns.{columns_of as columns_meant, native_columns as columns_by_operator};
 ghost use Rattle.planner.specs.Columns.{enforcer_columns as columns_by_enforcer, column_at, column_by};
-ghost use Rattle.planner.specs.Columns.{join_columns as columns_of_join};
+ghost use Rattle.planner.specs.Columns.{join_columns as columns_of_join, logical_columns as columns_of_logical};
 
 use crate::node::PlanColumn;
 use orca_base::{List, Text};
 use plan_space::{Enforcer, NodeKind};
-use query_core::{KeyParts, OrderKey, Physical, PhysicalExpr, Query, table_in};
+use query_core::{Access, KeyParts, Logical, OrderKey, PhysicalExpr, Query, table_in};
 use query_text::computed_text;
 use request_props::Props;
 use std::alloc::{AllocError, Global};
@@ -41,18 +41,34 @@ fn operator_columns(
 ) -> Result<List<PlanColumn>, AllocError>
     ensures { IfOk result (λ columns. columns ≡ columns_by_operator query.now expr) }
 {
-    let table = table_in(expr.group);
-    match expr.operator {
-        Physical::Scan => Ok(List::new(alloc)),
-        Physical::IndexScan(index) => named(alloc, query, index_columns(query, table, index)),
-        Physical::Filter(_) => Ok(List::new(alloc)),
-        Physical::IndexSeek(index) => named(alloc, query, index_columns(query, table, index)),
-        Physical::HashJoin(left, right) => join_columns(alloc, query, left, right),
-        Physical::MergeJoin(left, right) => join_columns(alloc, query, left, right),
-        Physical::LoopJoin(left, right) => join_columns(alloc, query, left, right),
-        Physical::HashAgg(_) => named(alloc, query, query.group_by.as_slice()),
-        Physical::StreamAgg(_) => named(alloc, query, query.group_by.as_slice()),
-        Physical::PartialAgg(_) => named(alloc, query, query.group_by.as_slice()),
+    let implemented = expr.operator.implements(expr.group);
+    match expr.operator.access() {
+        Access::Direct => logical_columns(alloc, query, implemented),
+        Access::Index(index) => {
+            named(
+                alloc,
+                query,
+                index_columns(query, table_in(expr.group), index),
+            )
+        }
+    }
+}
+
+fn logical_columns(
+    alloc: Global,
+    query: &Query,
+    operator: Logical,
+) -> Result<List<PlanColumn>, AllocError>
+    ensures { IfOk result (λ columns.
+        columns ≡ map (column_at query.now) (columns_of_logical query.now operator)) }
+{
+    match operator {
+        Logical::Get => Ok(List::new(alloc)),
+        Logical::Select(_) => Ok(List::new(alloc)),
+        Logical::NJoin => Ok(List::new(alloc)),
+        Logical::Join(left, right) => join_columns(alloc, query, left, right),
+        Logical::Agg(_) => named(alloc, query, query.group_by.as_slice()),
+        Logical::Partial(_) => named(alloc, query, query.group_by.as_slice()),
     }
 }
 
