@@ -24,23 +24,27 @@ pub record HasDigits (number digits : ℕ) : Type 0 where
   pub enough : number < 2 ^ digits
   pub needed : 2 ^ digits ≤ 2 * number + 1
 
+-- the rows that a node handles
+abbrev pub work : CostShape → ℕ
+work (Scan rows) = rows
+work (IndexScan rows) = 2 * rows
+work (IndexSeek out) = 3 * out
+work (Filter rows) = rows
+work (HashJoin left right out) = left + 2 * right + out
+work (MergeJoin left right out) = left + right + out
+work (LoopJoin left right) = left * right
+work (HashAgg rows out) = 2 * rows + out
+work (StreamAgg rows) = rows
+work (PartialAgg rows) = 2 * rows
+work (Sort rows) = rows * bits rows
+work (Gather rows) = 2 * rows
+work (GatherMerge rows) = 3 * rows
+work (Redistribute rows) = 4 * rows
+work (Broadcast rows) = 4 * rows
+
 -- the rows that a node handles, and one more
 abbrev pub effort : CostShape → ℕ
-effort (Scan rows) = rows + 1
-effort (IndexScan rows) = 2 * rows + 1
-effort (IndexSeek out) = 3 * out + 1
-effort (Filter rows) = rows + 1
-effort (HashJoin left right out) = left + 2 * right + out + 1
-effort (MergeJoin left right out) = left + right + out + 1
-effort (LoopJoin left right) = left * right + 1
-effort (HashAgg rows out) = 2 * rows + out + 1
-effort (StreamAgg rows) = rows + 1
-effort (PartialAgg rows) = 2 * rows + 1
-effort (Sort rows) = rows * bits rows + 1
-effort (Gather rows) = 2 * rows + 1
-effort (GatherMerge rows) = 3 * rows + 1
-effort (Redistribute rows) = 4 * rows + 1
-effort (Broadcast rows) = 4 * rows + 1
+effort shape = work shape + 1
 
 -- the most that a node is said to cost
 abbrev pub most_cost : ℕ

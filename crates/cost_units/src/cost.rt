@@ -3,7 +3,7 @@
 
 ghost use Rattle.std.specs.Prelude.{ℕ, ◌≡◌, ◌≤◌, ◌<◌, ◌^◌};
 ghost use Rattle.cost_units.specs.declared.shape.CostShape.{CostShape};
-ghost use Rattle.cost_units.specs.Cost.{IsBounded, HasDigits, bits, effort as effort_of, most_cost};
+ghost use Rattle.cost_units.specs.Cost.{IsBounded, HasDigits, bits, most_cost, work as work_of};
 ghost use Rattle.cost_units.specs.Cost.{local_cost, share as share_of};
 
 use crate::shape::{Class, CostShape};
@@ -32,7 +32,7 @@ pub fn local(shape: CostShape) -> u64
     ensures some { 1 ≤ result }
     ensures most { result ≤ most_cost }
 {
-    effort(shape).min(MOST_COST as u128) as u64
+    (work(shape) + 1).min(MOST_COST as u128) as u64
 }
 
 /// A number's bits are the binary digits that it needs.
@@ -40,29 +40,28 @@ pub fn bits_are_digits()
     ensures { (n : ℕ) → n < 2 ^ 64 → HasDigits n (bits n) }
 {}
 
-fn effort(shape: CostShape) -> u128
+// The rows that a node handles.
+fn work(shape: CostShape) -> u128
     requires { IsBounded shape }
-    ensures value { result ≡ effort_of shape }
-    ensures some { 1 ≤ result }
+    ensures value { result ≡ work_of shape }
+    ensures most { result ≤ 10 ^ 24 }
 {
     match shape {
-        CostShape::Scan(rows) => rows as u128 + 1,
-        CostShape::IndexScan(rows) => 2 * rows as u128 + 1,
-        CostShape::IndexSeek(out) => 3 * out as u128 + 1,
-        CostShape::Filter(rows) => rows as u128 + 1,
-        CostShape::HashJoin(left, right, out) => {
-            left as u128 + 2 * right as u128 + out as u128 + 1
-        }
-        CostShape::MergeJoin(left, right, out) => left as u128 + right as u128 + out as u128 + 1,
-        CostShape::LoopJoin(left, right) => left as u128 * right as u128 + 1,
-        CostShape::HashAgg(rows, out) => 2 * rows as u128 + out as u128 + 1,
-        CostShape::StreamAgg(rows) => rows as u128 + 1,
-        CostShape::PartialAgg(rows) => 2 * rows as u128 + 1,
-        CostShape::Sort(rows) => rows as u128 * digits(rows) as u128 + 1,
-        CostShape::Gather(rows) => 2 * rows as u128 + 1,
-        CostShape::GatherMerge(rows) => 3 * rows as u128 + 1,
-        CostShape::Redistribute(rows) => 4 * rows as u128 + 1,
-        CostShape::Broadcast(rows) => 4 * rows as u128 + 1,
+        CostShape::Scan(rows) => rows as u128,
+        CostShape::IndexScan(rows) => 2 * rows as u128,
+        CostShape::IndexSeek(out) => 3 * out as u128,
+        CostShape::Filter(rows) => rows as u128,
+        CostShape::HashJoin(left, right, out) => { left as u128 + 2 * right as u128 + out as u128 }
+        CostShape::MergeJoin(left, right, out) => left as u128 + right as u128 + out as u128,
+        CostShape::LoopJoin(left, right) => left as u128 * right as u128,
+        CostShape::HashAgg(rows, out) => 2 * rows as u128 + out as u128,
+        CostShape::StreamAgg(rows) => rows as u128,
+        CostShape::PartialAgg(rows) => 2 * rows as u128,
+        CostShape::Sort(rows) => rows as u128 * digits(rows) as u128,
+        CostShape::Gather(rows) => 2 * rows as u128,
+        CostShape::GatherMerge(rows) => 3 * rows as u128,
+        CostShape::Redistribute(rows) => 4 * rows as u128,
+        CostShape::Broadcast(rows) => 4 * rows as u128,
     }
 }
 

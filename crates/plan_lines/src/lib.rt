@@ -4,8 +4,6 @@
 mod lines;
 mod nodes;
 mod section;
-mod ways;
 
 pub use nodes::node_text;
 pub use section::{output_line, plan_text};
-pub use ways::way_of;

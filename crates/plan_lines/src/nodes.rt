@@ -7,8 +7,7 @@ ghost use Rattle.request_props.specs.Numbered.{IsProps};
 ghost use Rattle.plan_space.specs.declared.ways.Way.TheVariants.{Reads};
 ghost use Rattle.plan_lines.specs.Text as texts;
 
-use crate::ways::way_of;
-use plan_space::{Enforcer, JoinBy, Kept, Mode, NodeKind, Way};
+use plan_space::{Enforcer, JoinBy, Kept, Mode, NodeKind, Way, way_of};
 use plan_tree::is_replicated;
 use query_core::{Access, PhysicalExpr, Query, table_in};
 use query_text::{list_text, name_of_operator, order_text, table_text};

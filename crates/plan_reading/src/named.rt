@@ -12,8 +12,7 @@ ghost use Rattle.plan_reading.specs.Named.{HasLoopForm, HasAggForm};
 
 use crate::operators::unplaced;
 use plan_check::is_enforcer_of;
-use plan_lines::way_of;
-use plan_space::{Enforcer, JoinBy, Kept, Mode, NodeKind, Way};
+use plan_space::{Enforcer, JoinBy, Kept, Mode, NodeKind, Way, way_of};
 use plan_tree::is_replicated;
 use query_core::{Access, Children, KeyParts, Operator, Physical, Query, table_in};
 use request_props::Props;

@@ -6,9 +6,6 @@ use Rattle.plan_space.specs.Nodes.{number_of, Tree, over, two, code_of}
 use Rattle.plan_space.specs.declared.nodes.NodeKind.{NodeKind}
 use Rattle.plan_space.specs.Gives.{kid_of}
 use Rattle.cost_units.specs.declared.shape.CostShape.{CostShape}
-use Rattle.cost_units.specs.declared.shape.CostShape.TheVariants.{Scan, IndexScan, IndexSeek, Filter, HashJoin}
-use Rattle.cost_units.specs.declared.shape.CostShape.TheVariants.{MergeJoin, LoopJoin, HashAgg, StreamAgg, PartialAgg}
-use Rattle.cost_units.specs.declared.shape.CostShape.TheVariants.{Sort, Gather, GatherMerge, Redistribute, Broadcast}
 use Rattle.cost_units.specs.Cost.{local_cost}
 use Rattle.plan_space.specs.Cost.{shape_of, cost_of}
 use Rattle.plan_space.specs.Least.{IsLess}
@@ -39,21 +36,7 @@ at_most_costs q a b (inr same) = omega arith
 -- each node costs something
 costs_some : (shape : CostShape) → 1 ≤ local_cost shape
 unfolding local_cost
-costs_some (Scan rows) = omega arith
-costs_some (IndexScan rows) = omega arith
-costs_some (IndexSeek out) = omega arith
-costs_some (Filter rows) = omega arith
-costs_some (HashJoin left right out) = omega arith
-costs_some (MergeJoin left right out) = omega arith
-costs_some (LoopJoin left right) = omega arith
-costs_some (HashAgg rows out) = omega arith
-costs_some (StreamAgg rows) = omega arith
-costs_some (PartialAgg rows) = omega arith
-costs_some (Sort rows) = omega arith
-costs_some (Gather rows) = omega arith
-costs_some (GatherMerge rows) = omega arith
-costs_some (Redistribute rows) = omega arith
-costs_some (Broadcast rows) = omega arith
+costs_some shape = omega arith
 
 -- a plan is less than the same plan under one more node
 pub kid_at_most : (q : Query) (node : NodeKind) (a kid : Tree) → IsAtMost q a kid → IsAtMost q a (over node kid)

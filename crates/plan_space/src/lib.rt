@@ -19,4 +19,4 @@ pub use modes::{END as MODES_END, Mode, ModeSets};
 pub use motions::{merges_to, motion_to, motions_are_known, moving};
 pub use nodes::{Enforcer, Motion, NodeKind};
 pub use seen::Kid;
-pub use ways::{GroupBy, JoinBy, Kept, Way};
+pub use ways::{GroupBy, JoinBy, Kept, Way, way_of};

@@ -1,7 +1,10 @@
 //! The ways in which physical operators work.
 #![tactic(auto)]
 
-use query_core::{Access, KeyParts};
+ghost use Rattle.std.specs.Prelude.{◌≡◌};
+ghost use Rattle.plan_space.specs.Ways.{way_of as way_by_table};
+
+use query_core::{Access, KeyParts, Physical};
 
 /// How an operator works, with the groups that it stands on.
 #[derive(Clone, Copy)]
@@ -39,4 +42,22 @@ pub enum GroupBy {
     Hashing,
     /// They come in an order.
     Ordered,
+}
+
+/// The operator's way of working.
+pub fn way_of(operator: Physical) -> Way
+    ensures { result ≡ way_by_table operator }
+{
+    match operator {
+        Physical::Scan => Way::Reads(Access::Direct),
+        Physical::IndexScan(index) => Way::Reads(Access::Index(index)),
+        Physical::Filter(child) => Way::Passes(Kept::Rows, child),
+        Physical::IndexSeek(index) => Way::Reads(Access::Index(index)),
+        Physical::HashJoin(left, right) => Way::Joins(JoinBy::Hashing, left, right),
+        Physical::MergeJoin(left, right) => Way::Joins(JoinBy::Merging, left, right),
+        Physical::LoopJoin(left, right) => Way::Joins(JoinBy::Looping, left, right),
+        Physical::HashAgg(child) => Way::Groups(GroupBy::Hashing, child),
+        Physical::StreamAgg(child) => Way::Groups(GroupBy::Ordered, child),
+        Physical::PartialAgg(child) => Way::Passes(Kept::SpreadRows, child),
+    }
 }

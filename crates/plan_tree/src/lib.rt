@@ -17,7 +17,6 @@ mod seen_cost;
 mod serving;
 mod serving_modes;
 mod walks;
-mod ways;
 
 pub use alternatives::{
     Alt, alternative, alternative_at, alternative_by, alternative_in, alternative_of, modes_are_one,

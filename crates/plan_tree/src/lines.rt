@@ -15,8 +15,7 @@ ghost use Rattle.plan_space.specs.Lines.{merge_colocated as merge_line_hashed};
 ghost use Rattle.plan_space.specs.Lines.{on_one, on_hashed, in_order};
 ghost use Rattle.plan_space.specs.Lines.{is_replicated as has_copies, replica_dists, dists_of_table};
 
-use crate::ways::way_of;
-use plan_space::{GroupBy, JoinBy, Kept, LeftDist, LeftOrder, Line, Mode, Way};
+use plan_space::{GroupBy, JoinBy, Kept, LeftDist, LeftOrder, Line, Mode, Way, way_of};
 use query_core::{Access, KeyParts, PhysicalExpr, Query, table_in};
 use request_props::{Dist, GivenDist, GivenOrder, Props, Request, Side};
 

@@ -12,8 +12,7 @@ use crate::join_modes::{join_may_serve, join_modes};
 use crate::lines::{grouped_order, order_read};
 use crate::read_modes::read_modes;
 use crate::walks::next_of;
-use crate::ways::way_of;
-use plan_space::{Line, MODES_END, ModeSets, Way, modes_are_few, what_is_asked_fits};
+use plan_space::{Line, MODES_END, ModeSets, Way, modes_are_few, way_of, what_is_asked_fits};
 use query_core::{PhysicalExpr, Query};
 use request_props::{Props, Request};
 

@@ -12,8 +12,7 @@ ghost use Rattle.plan_space.specs.declared.ways.Way.TheVariants.{Joins};
 ghost use Rattle.plan_tree.specs.Walks.{AreLined, AreModesOf, IsNextLine, IsNextOf};
 
 use crate::lines::{line_of, read_count};
-use crate::ways::way_of;
-use plan_space::{JoinBy, Line, MODES_END, ModeSets, Way, modes_are_few};
+use plan_space::{JoinBy, Line, MODES_END, ModeSets, Way, modes_are_few, way_of};
 use query_core::{KeyParts, PhysicalExpr, Query, table_in};
 use request_props::{NumberSet, Props};
 
