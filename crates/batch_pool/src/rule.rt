@@ -1,6 +1,7 @@
 // The rule of the queue of items, and each kind of step: what it does to the pass that makes it, and what the pass
 // learns at a full and at an empty queue.
-ghost use Rattle.batch_pool.specs.Views.{first_view, after_split, new_view, after_join, spent_view, PassPushes, PassPops};
+ghost use Rattle.batch_pool.specs.Views.{first_view, after_split, new_view, after_join, spent_view, PassPushes};
+ghost use Rattle.batch_pool.specs.Views.{PassPops};
 ghost use Rattle.batch_pool.specs.Rule.{KeepsItems, HoldsPushed, HoldsUntaken};
 
 use crate::pass_view::PassView;

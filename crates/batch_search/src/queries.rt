@@ -16,11 +16,11 @@ pub(crate) struct QueryBatch<'q> {
 
 impl<'q> Model for QueryBatch<'q> {
     ghost use Rattle.std.specs.Prelude.{ℕ, ◌≤◌, ◌^◌, length};
-    ghost use Rattle.std.specs.Prelude.{List as Listed};
+    ghost use Rattle.std.specs.Prelude.{List as AnyList};
     ghost use Rattle.query_core.specs.declared.query.Query.{Query};
     ghost use Rattle.batch_search.specs.Batches.{AreProps};
 
-    ghost Value = { Listed Query × ℕ };
+    ghost Value = { AnyList Query × ℕ };
 
     ghost view = { λ b. (b.queries.now, b.capacity) };
 

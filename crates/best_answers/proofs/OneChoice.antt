@@ -21,7 +21,7 @@ use Rattle.plan_space.specs.Least.{IsLeast}
 use Rattle.plan_space.specs.Choices.{groups_of, IsNodeOver, AreLeast, IsChoice, enforced_choice, native_choice}
 use Rattle.plan_space.proofs.MotionLaws.{enforcer_asks}
 use Rattle.plan_tree.proofs.Kept.{enforcer_in_range}
-use Rattle.plan_tree.specs.Nodes.{IsInRange}
+use Rattle.plan_tree.specs.Nodes.{IsNodeInRange}
 use Rattle.plan_tree.specs.Seen.{root_node}
 use Rattle.best_answers.proofs.Roots.{root_over, over_one}
 
@@ -31,7 +31,7 @@ pub record AreTold (q : Query) : Type 0 where
   pub few_orders : length (orders_of q) ≤ 60
   pub least_one : (group : KeyParts) (wanted : Request) (plan other : Tree) → IsLeast (IsMember q) q group wanted plan
       → IsLeast (IsMember q) q group wanted other → other ≡ plan
-  pub nodes_one : (a b : NodeKind) → IsInRange a → IsInRange b → number_of a ≡ number_of b → a ≡ b
+  pub nodes_one : (a b : NodeKind) → IsNodeInRange a → IsNodeInRange b → number_of a ≡ number_of b → a ≡ b
   pub few_modes : (e : PhysicalExpr) (mode : ℕ) (line : Line) → line_of q e mode ≡ Some line → mode < 192
   pub packed : (e : ExprParts) → IsMember q e → IsPacked e
 
@@ -48,11 +48,12 @@ same_enforcer wanted e f x y same =
 module _ (q : Query) (told : AreTold q) (group : KeyParts) where
   -- a choice's root has a number of its own
   pub choice_in_range : (wanted : Request) (plan : Tree) → Fits q group wanted
-      → IsChoice (IsMember q) q group wanted plan → IsInRange (root_node plan)
+      → IsChoice (IsMember q) q group wanted plan → IsNodeInRange (root_node plan)
   choice_in_range wanted plan fits (enforced_choice e kid among least is) =
-      subst (λ t. IsInRange (root_node t)) (sym is) (enforcer_in_range q told.few_lists told.few_orders group wanted e fits among)
+      subst (λ t. IsNodeInRange (root_node t)) (sym is)
+      (enforcer_in_range q told.few_lists told.few_orders group wanted e fits among)
   choice_in_range wanted plan fits (native_choice e mode line kids member of_group alternative least is) =
-      subst IsInRange (sym (root_over (nodes.Native e mode) kids plan is)) (record {
+      subst IsNodeInRange (sym (root_over (nodes.Native e mode) kids plan is)) (record {
         packed = told.packed (expr_of e) member;
         few = omega (arith, told.few_modes e mode line alternative.is_line);
       })

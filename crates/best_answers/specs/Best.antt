@@ -2,7 +2,7 @@
 -- give the recursion by pairs, a best answer from the best answers for what a node asks.
 use Rattle.std.specs.Prelude.{ℕ, ◌≡◌, List, [], ◌∷◌, Option, None, Some, option_map, ⊤}
 use Rattle.query_core.specs.Expressions.{expr_of}
-use Rattle.query_core.specs.Keys.{Names}
+use Rattle.query_core.specs.Keys.{NamesGroup}
 use Rattle.query_core.specs.declared.query.Query.{Query}
 use Rattle.query_core.specs.declared.words.Key.{Key}
 use Rattle.query_core.specs.declared.words.KeyParts.{KeyParts}
@@ -53,7 +53,8 @@ AreBest q (group ∷ groups) (wanted ∷ wishes) (answer ∷ answers) =
 -- the answer is the best for what is asked, if something is
 abbrev pub IsBestAsked : Query → Option (Key × Request) → Option Best → Type 0
 IsBestAsked q None answer = ⊤
-IsBestAsked q (Some asked) answer = (group : KeyParts) → Names q asked.0 group → IsBest q group asked.1 all_nodes answer
+IsBestAsked q (Some asked) answer = (group : KeyParts) → NamesGroup q asked.0 group
+    → IsBest q group asked.1 all_nodes answer
 
 -- the enforcer found is this one of those for the request
 pub record IsEnforcedBy (wanted : Request) (found : Enforced) (e : EnforcedBy) : Type 0 where

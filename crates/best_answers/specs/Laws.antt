@@ -19,7 +19,7 @@ use Rattle.plan_space.specs.Cost.{most_of_all}
 use Rattle.plan_space.specs.Least.{IsAnswer}
 use Rattle.plan_space.specs.Choices.{groups_of, IsChoice}
 use Rattle.plan_tree.specs.Costs.{IsNativeCost, IsEnforcerCost}
-use Rattle.plan_tree.specs.Nodes.{IsInRange}
+use Rattle.plan_tree.specs.Nodes.{IsNodeInRange}
 use Rattle.plan_tree.specs.Seen.{root_node}
 use Rattle.best_answers.specs.Nodes.{Nodes, no_nodes, one_node, both_of, all_nodes, IsIn}
 use Rattle.best_answers.specs.Answers.{answer_of, lesser, costs_below, best_over}
@@ -97,4 +97,4 @@ BestsFit q =
 abbrev pub RootsHaveNumbers : Query → Type 0
 RootsHaveNumbers q =
     (props : Props) → IsProps q props → (group : KeyParts) (wanted : Request) (plan : Tree) → Fits q group wanted
-    → IsChoice (IsMember q) q group wanted plan → IsInRange (root_node plan)
+    → IsChoice (IsMember q) q group wanted plan → IsNodeInRange (root_node plan)

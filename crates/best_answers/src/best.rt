@@ -2,7 +2,7 @@
 #![tactic(auto)]
 
 ghost use Rattle.std.specs.Prelude.{◌≡◌};
-ghost use Rattle.best_answers.specs.Answers.{is_lesser as lesser_by, lesser as lesser_of};
+ghost use Rattle.best_answers.specs.Answers.{is_lesser as the_is_lesser, lesser as the_lesser};
 
 use plan_tree::Node;
 
@@ -16,7 +16,7 @@ pub struct Best {
 /// Of two answers the one that costs less, and where they cost the same the one with the lesser
 /// node.
 pub fn lesser(first: Option<Best>, second: Option<Best>) -> Option<Best>
-    ensures { result ≡ lesser_of first second }
+    ensures { result ≡ the_lesser first second }
 {
     match (first, second) {
         (Some(one), Some(other)) if is_lesser(other, one) => second,
@@ -26,7 +26,7 @@ pub fn lesser(first: Option<Best>, second: Option<Best>) -> Option<Best>
 }
 
 fn is_lesser(first: Best, second: Best) -> bool
-    ensures { result ≡ lesser_by first second }
+    ensures { result ≡ the_is_lesser first second }
 {
     first.cost < second.cost || first.cost == second.cost && first.node.0 < second.node.0
 }

@@ -7,12 +7,12 @@ use Rattle.goal_board.specs.RightCalls.{FinishesGoal}
 use Rattle.board_moves.specs.declared.progress.Progress.{Progress}
 use Rattle.board_moves.specs.declared.progress.Progress.TheVariants as progress
 use Rattle.board_moves.specs.declared.progress.Turned.{Turned}
-use Rattle.board_moves.specs.Turns.{IsReady, GivesUp, EndsTurn, Works, Turns}
+use Rattle.board_moves.specs.Turns.{MayFinish, GivesUp, EndsTurn, Works, Turns}
 
 module _ {R : Type 0} (meaning : Meaning) (capacity : ℕ) (Adds : ℕ → Type 0) (v : Hands R) (before : Right) where
   -- a goal that is complete may be finished
   pub ready_after : (came : Progress) (w : Hands R) (after : Right) → Works meaning capacity Adds v before came w after
-      → IsReady meaning capacity w.looks after came
+      → MayFinish meaning capacity w.looks after came
   ready_after (progress.Complete answer) w after works = works.1
   ready_after progress.Waiting w after works = tt
   ready_after progress.Full w after works = tt

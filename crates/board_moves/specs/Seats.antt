@@ -10,7 +10,7 @@ use Rattle.board_moves.specs.declared.progress.Turned.{Turned}
 use Rattle.board_moves.specs.declared.settled.Seen.{Seen}
 use Rattle.board_moves.specs.declared.settled.Settled.{Settled}
 use Rattle.board_moves.specs.Moves.{Awaits}
-use Rattle.board_moves.specs.Turns.{IsReady, EndsTurn}
+use Rattle.board_moves.specs.Turns.{MayFinish, EndsTurn}
 use Rattle.board_moves.specs.Collects.{Settles}
 use Rattle.board_moves.specs.Passes.{SeesGoal, Sees, CountsAgain, Collects, AwaitsFound}
 
@@ -27,7 +27,7 @@ module _ {R : Type 0} (meaning_of : R → Meaning) (b : Board R) (s : Seat R) wh
 
   -- a goal may be finished where it is complete
   abbrev pub SeatIsReady : Right → Progress → Type 0
-  SeatIsReady right progress = IsReady (meaning_of b.setup.rules) b.setup.capacity (hands s).looks right progress
+  SeatIsReady right progress = MayFinish (meaning_of b.setup.rules) b.setup.capacity (hands s).looks right progress
 
   -- a goal that is complete was finished, and another was suspended
   abbrev pub SeatEnds : (place worker : ℕ) → Progress → Turned → Seat R → Type 0

@@ -15,11 +15,11 @@ use Rattle.board_moves.specs.declared.progress.Turned.TheVariants as turned
 
 -- a goal may be finished with an answer where its right has no wait, the looks show its promise, and the answer is the
 -- goal's
-abbrev pub IsReady : Meaning → ℕ → List (ℕ × ℕ) → Right → Progress → Type 0
-IsReady meaning capacity looks right (progress.Complete answer) = (right.waits ≡ 0)
+abbrev pub MayFinish : Meaning → ℕ → List (ℕ × ℕ) → Right → Progress → Type 0
+MayFinish meaning capacity looks right (progress.Complete answer) = (right.waits ≡ 0)
     × ShowsPromise meaning capacity looks right.goal × meaning.answer right.goal answer.cost answer.node
-IsReady meaning capacity looks right progress.Waiting = Unit {0}
-IsReady meaning capacity looks right progress.Full = Unit {0}
+MayFinish meaning capacity looks right progress.Waiting = Unit {0}
+MayFinish meaning capacity looks right progress.Full = Unit {0}
 
 -- the right to the goal was given up
 abbrev pub GivesUp : {R : Type 0} → Hands R → ℕ → Hands R → Type 0
@@ -38,7 +38,7 @@ module _ {R : Type 0} (meaning : Meaning) (capacity : ℕ) (Adds : ℕ → Type 
   -- cell
   abbrev pub Works : Progress → Hands R → Right → Type 0
   Works (progress.Complete answer) w after = Proceeds Adds v before w after
-      × IsReady meaning capacity w.looks after (progress.Complete answer)
+      × MayFinish meaning capacity w.looks after (progress.Complete answer)
   Works progress.Waiting w after = Proceeds Adds v before w after × (1 ≤ after.waits)
   Works progress.Full w after = RunsOut Adds v before capacity w after
 

@@ -9,7 +9,7 @@ use Rattle.board_rule.specs.Records.{Claimed, Ended, Pending}
 use Rattle.board_rule.specs.Waiters.{waiting}
 use Rattle.board_rule.specs.Words.{Mem}
 use Rattle.board_rule.specs.Seats.{Each, times, waits_at}
-use Rattle.board_rule.specs.Rule.{KeepsBlank, KeepsPromises, AreHands, IsRecorded, IsStored, IsRaised, IsSoundBy}
+use Rattle.board_rule.specs.Soundness.{KeepsBlank, KeepsPromises, AreHands, IsRecorded, IsStored, IsRaised, IsSoundBy}
 use Rattle.board_rule.specs.May.{HasRight}
 use Rattle.board_rule.specs.declared.hands.Hands.{Hands}
 use Rattle.board_rule.proofs.Lists.{each_as, absent_each, total_same, terms_le}

@@ -10,7 +10,7 @@ use Rattle.board_rule.specs.Meaning.{Meaning}
 use Rattle.board_rule.specs.Records.{Claimed}
 use Rattle.board_rule.specs.Words.{Mem, mem, put, cost_word, node_word, who_word}
 use Rattle.board_rule.specs.Seats.{changed, cost_stored, node_stored, who_stored}
-use Rattle.board_rule.specs.Rule.{IsStored, IsSoundBy, IsSound}
+use Rattle.board_rule.specs.Soundness.{IsStored, IsSoundBy, IsSound}
 use Rattle.board_rule.specs.May.{HasRight, HasPart}
 use Rattle.board_rule.specs.Plays.{Sat, TellsStoreCost, TellsStoreNode, TellsStoreWho}
 use Rattle.board_rule.specs.declared.hands.Hands.{Hands}

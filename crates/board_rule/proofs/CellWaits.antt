@@ -7,7 +7,7 @@ use Rattle.board_rule.specs.Records.{Claimed}
 use Rattle.board_rule.specs.Words.{Mem, put}
 use Rattle.board_rule.specs.Waiters.{waiting}
 use Rattle.board_rule.specs.Seats.{Among, in_hand}
-use Rattle.board_rule.specs.Rule.{KeepsBlank, ArePending, WaitedFor, IsWalked, KeepsWaits}
+use Rattle.board_rule.specs.Soundness.{KeepsBlank, ArePending, WaitedFor, IsWalked, KeepsWaits}
 use Rattle.board_rule.specs.declared.hands.Hands.{Hands}
 use Rattle.board_rule.proofs.Lists.{put_else}
 use Rattle.board_rule.proofs.Chains.{each_with}

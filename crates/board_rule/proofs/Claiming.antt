@@ -11,8 +11,8 @@ use Rattle.std.proofs.lemmas.Nat.Bits.{bit_at-zero, bit_at-pow_other}
 use Rattle.board_rule.specs.Meaning.{Meaning}
 use Rattle.board_rule.specs.Words.{Mem, mem, put, run_word}
 use Rattle.board_rule.specs.Seats.{waits_at, fresh_right, looked, claimed}
-use Rattle.board_rule.specs.Rule.{HoldsGoal, KeepsRights, ArePending, IsSound}
-use Rattle.board_rule.specs.Rule.{held, ended}
+use Rattle.board_rule.specs.Soundness.{HoldsGoal, KeepsRights, ArePending, IsSound}
+use Rattle.board_rule.specs.Soundness.{held, ended}
 use Rattle.board_rule.specs.May.{MayClaim, HasPart}
 use Rattle.board_rule.specs.Plays.{Sat, TellsClaim, ClaimsAt, Tells}
 use Rattle.board_rule.specs.declared.hands.Hands.{Hands}
@@ -49,7 +49,7 @@ rights_claimed capacity m views id v place mine ready near old =
       running = ap (λ n. bit_at n 8) (put_here m.run place 256) ∙ omega (arith, h, d);
       small = λ i high. ap (λ n. bit_at n i) (put_here m.run place 256) ∙ held_alone i (λ e. omega arith);
       closed = λ one_done. absurd (omega arith);
-      settled = λ one_done. absurd (omega arith);
+      run_ended = λ one_done. absurd (omega arith);
       is_open = λ _. was.is_open (omega arith);
     })
     old

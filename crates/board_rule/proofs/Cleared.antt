@@ -11,7 +11,7 @@ use Rattle.board_rule.specs.Records.{Claimed, Pending}
 use Rattle.board_rule.specs.Words.{Mem, put}
 use Rattle.board_rule.specs.Waiters.{wait_bit, waiting, cleared}
 use Rattle.board_rule.specs.Seats.{Each, in_hand}
-use Rattle.board_rule.specs.Rule.{IsRaised, KeepsRights, KeepsWaits, held, ended}
+use Rattle.board_rule.specs.Soundness.{IsRaised, KeepsRights, KeepsWaits, held, ended}
 use Rattle.board_rule.specs.declared.hands.Hands.{Hands}
 use Rattle.board_rule.proofs.Lists.{put_here, put_else, put_cases, each_as, total_same, total-set, term_le, terms_le}
 use Rattle.board_rule.proofs.Rights.{rights_at, done_at, rights_moved}
@@ -145,7 +145,7 @@ module _ {R : Type 0} (meaning : Meaning) (capacity : ℕ) (m : Mem) (views : Li
       let d : ended (set views id w) place ≡ ended views place =
       total_same (λ (u : Hands R). done_at place u.done) views id v w mine (ap (done_at place) done) in
       let unsettled : ended (set views id w) place ≡ 1 → ⊥ = λ one.
-      let zero_bit : wait_bit m.run q ≡ 0 = ap (λ n. bit_at n (q % 8)) (was.settled (sym d ∙ one))
+      let zero_bit : wait_bit m.run q ≡ 0 = ap (λ n. bit_at n (q % 8)) (was.run_ended (sym d ∙ one))
       ∙ held_alone (q % 8) (λ e. omega arith) in
       absurd (omega (arith, was_set)) in
       rights_moved views id v w mine capacity m.run m.head (run_cleared m.run q) m.head place
@@ -158,7 +158,7 @@ module _ {R : Type 0} (meaning : Meaning) (capacity : ℕ) (m : Mem) (views : Li
         small = λ i high. ap (λ n. bit_at n i) (put_here m.run place x)
             ∙ cleared_none (m.run place) (q % 8) i (was.small i high);
         closed = λ one. absurd (unsettled one);
-        settled = λ one. absurd (unsettled one);
+        run_ended = λ one. absurd (unsettled one);
         is_open = λ none_done. was.is_open (sym d ∙ none_done);
       })
       old

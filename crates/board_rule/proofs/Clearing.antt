@@ -10,7 +10,7 @@ use Rattle.board_rule.specs.Records.{Pending, Walk}
 use Rattle.board_rule.specs.Words.{Mem, mem, run_word}
 use Rattle.board_rule.specs.Waiters.{rest_of, wait_bit, cleared}
 use Rattle.board_rule.specs.Seats.{Each, in_hand, woken_by, changed, bit_cleared, wait_dropped}
-use Rattle.board_rule.specs.Rule.{IsRaised, ArePending, IsWalked, WaitedFor, IsSound}
+use Rattle.board_rule.specs.Soundness.{IsRaised, ArePending, IsWalked, WaitedFor, IsSound}
 use Rattle.board_rule.specs.May.{MayDrop, HasPart, MayWalk}
 use Rattle.board_rule.specs.Plays.{Sat, TellsClearBit, TellsDropWait, DropsWaitOf, ClearsBitOf, Tells}
 use Rattle.board_rule.specs.declared.hands.Hands.{Hands}

@@ -6,9 +6,9 @@ use Rattle.board_rule.specs.Meaning.{Meaning}
 use Rattle.board_rule.specs.Records.{Ended, Walk, Claimed}
 use Rattle.board_rule.specs.Words.{Mem, put, head_word}
 use Rattle.board_rule.specs.Waiters.{IsLater, head_of, IsChain}
-use Rattle.board_rule.specs.Rule.{HoldsGoal, KeepsBlank, IsPromised, KeepsPromises, Stays, IsRecorded, WaitedFor}
-use Rattle.board_rule.specs.Rule.{IsWalked, KeepsRights, IsRaised, KeepsWaits, EndsClaims}
-use Rattle.board_rule.specs.Rule.{held, ended}
+use Rattle.board_rule.specs.Soundness.{HoldsGoal, KeepsBlank, IsPromised, KeepsPromises, Stays, IsRecorded, WaitedFor}
+use Rattle.board_rule.specs.Soundness.{IsWalked, KeepsRights, IsRaised, KeepsWaits, EndsClaims}
+use Rattle.board_rule.specs.Soundness.{held, ended}
 use Rattle.board_rule.proofs.Lists.{put_else, put_cases, each_as, put_here}
 use Rattle.board_rule.proofs.Lists.{total-set}
 use mathlib.Core.Option.{some}
@@ -148,7 +148,7 @@ rights_close {R = R} capacity run head views id v place worker cost node waiters
       running = is.runs ∙ omega (arith, h, d);
       small = was.small;
       closed = λ _. put_here head place (2 ^ 63);
-      settled = λ _. settled;
+      run_ended = λ _. settled;
       is_open = λ none_done. absurd (omega arith);
     })
     old

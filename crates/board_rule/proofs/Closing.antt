@@ -9,8 +9,8 @@ use Rattle.board_rule.specs.Records.{Claimed}
 use Rattle.board_rule.specs.Words.{Mem, mem, put, head_word}
 use Rattle.board_rule.specs.Waiters.{head_of}
 use Rattle.board_rule.specs.Seats.{Each, in_hand, answered_right, finished}
-use Rattle.board_rule.specs.Rule.{HoldsGoal, IsPromised, IsRecorded, IsStored, IsRaised, ArePending}
-use Rattle.board_rule.specs.Rule.{WaitedFor, AreHands, IsSoundBy, IsSound}
+use Rattle.board_rule.specs.Soundness.{HoldsGoal, IsPromised, IsRecorded, IsStored, IsRaised, ArePending}
+use Rattle.board_rule.specs.Soundness.{WaitedFor, AreHands, IsSoundBy, IsSound}
 use Rattle.board_rule.specs.May.{HasRight, MayClose, HasPart}
 use Rattle.board_rule.specs.Plays.{Sat, TellsClose, ClosesHead, Tells}
 use Rattle.board_rule.specs.declared.hands.Hands.{Hands}

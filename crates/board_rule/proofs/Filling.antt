@@ -6,7 +6,7 @@ use Rattle.atomic_table.specs.Table.{keeps, step, Allows}
 use Rattle.board_rule.specs.Meaning.{Meaning}
 use Rattle.board_rule.specs.Words.{Mem, mem, full_word}
 use Rattle.board_rule.specs.Seats.{filled}
-use Rattle.board_rule.specs.Rule.{Stays, AreHands, IsFull, IsSoundBy, IsSound}
+use Rattle.board_rule.specs.Soundness.{Stays, AreHands, IsFull, IsSoundBy, IsSound}
 use Rattle.board_rule.specs.May.{MayFill, HasPart}
 use Rattle.board_rule.specs.Plays.{Sat, TellsFill}
 use Rattle.board_rule.specs.declared.hands.Hands.{Hands}

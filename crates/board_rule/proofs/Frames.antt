@@ -7,7 +7,7 @@ use Rattle.atomic_table.proofs.Lists.{at_set}
 use Rattle.board_rule.specs.Meaning.{Meaning}
 use Rattle.board_rule.specs.Records.{Claimed, Ended}
 use Rattle.board_rule.specs.Seats.{times, spent, changed}
-use Rattle.board_rule.specs.Rule.{AreRights, KeepsRights, IsAwake, OfAll, KeepsAlone, IsSound, held, ended}
+use Rattle.board_rule.specs.Soundness.{AreRights, KeepsRights, IsAwake, OfAll, KeepsAlone, IsSound, held, ended}
 use Rattle.board_rule.specs.Plays.{Moment}
 use Rattle.board_rule.specs.declared.hands.Hands.{Hands}
 use Rattle.board_rule.proofs.Lists.{some_below, total_same}
@@ -45,7 +45,7 @@ module _ {R : Type 0} where
     running = omega (arith, h, d, old.running);
     small = old.small;
     closed = λ one. old.closed (sym d ∙ one);
-    settled = λ one. old.settled (sym d ∙ one);
+    run_ended = λ one. old.run_ended (sym d ∙ one);
     is_open = λ zero_done. old.is_open (sym d ∙ zero_done);
   }
 

@@ -6,7 +6,7 @@ use Rattle.std.proofs.lemmas.Nat.Bits.{bit_at-lt}
 use Rattle.board_rule.specs.Meaning.{Meaning}
 use Rattle.board_rule.specs.Waiters.{first_of, below}
 use Rattle.board_rule.specs.Seats.{Each}
-use Rattle.board_rule.specs.Rule.{KeepsWaits}
+use Rattle.board_rule.specs.Soundness.{KeepsWaits}
 use Rattle.board_rule.specs.declared.hands.Hands.{Hands}
 use Rattle.board_rule.proofs.Rights.{counts_one, counts_none}
 use Rattle.board_rule.proofs.Chains.{count, below_none, below_term}

@@ -10,7 +10,7 @@ use Rattle.board_rule.specs.Records.{Claimed, Pending, Walk}
 use Rattle.board_rule.specs.Words.{Mem, mem, put, next_word}
 use Rattle.board_rule.specs.Waiters.{wait_bit, waiting}
 use Rattle.board_rule.specs.Seats.{in_hand, next_stored}
-use Rattle.board_rule.specs.Rule.{KeepsBlank, ArePending, IsWalked, KeepsWaits, AreHands, IsSoundBy, IsSound}
+use Rattle.board_rule.specs.Soundness.{KeepsBlank, ArePending, IsWalked, KeepsWaits, AreHands, IsSoundBy, IsSound}
 use Rattle.board_rule.specs.May.{MayLink, HasPart}
 use Rattle.board_rule.specs.Plays.{Sat, TellsStoreNext}
 use Rattle.board_rule.specs.declared.hands.Hands.{Hands}

@@ -8,7 +8,7 @@ use Rattle.atomic_table.specs.Table.{State, step, keeps, Allows}
 use Rattle.board_rule.specs.Meaning.{Meaning}
 use Rattle.board_rule.specs.Words.{mem}
 use Rattle.board_rule.specs.Seats.{looked}
-use Rattle.board_rule.specs.Rule.{AreHands, IsSound}
+use Rattle.board_rule.specs.Soundness.{AreHands, IsSound}
 use Rattle.board_rule.specs.Plays.{Sat, TellsLook}
 use Rattle.board_rule.specs.declared.hands.Hands.{Hands}
 use Rattle.board_rule.proofs.Lists.{total_same}

@@ -12,7 +12,7 @@ use Rattle.board_rule.specs.Meaning.{Meaning}
 use Rattle.board_rule.specs.Words.{Mem, mem, full_word, cell_word, run_word, head_word}
 use Rattle.board_rule.specs.Waiters.{wait_bit, no_walk}
 use Rattle.board_rule.specs.Seats.{opening_hands}
-use Rattle.board_rule.specs.Rule.{IsWalked, IsAwake, AreHands, KeepsAlone}
+use Rattle.board_rule.specs.Soundness.{IsWalked, IsAwake, AreHands, KeepsAlone}
 use Rattle.board_rule.specs.declared.hands.Hands.{Hands}
 use Rattle.board_rule.proofs.Chains.{count, below_none}
 use Rattle.board_rule.proofs.Looking.{Holds}
@@ -86,7 +86,7 @@ module _ {R : Type 0} (meaning_of : R → Meaning) (rules : R) (capacity : ℕ) 
             running = ap (λ n. bit_at n 8) (z (run_word p)) ∙ bit_at-zero 8;
             small = λ i _. ap (λ n. bit_at n i) (z (run_word p)) ∙ bit_at-zero i;
             closed = λ one. absurd (omega arith);
-            settled = λ one. absurd (omega arith);
+            run_ended = λ one. absurd (omega arith);
             is_open = λ _. let e : (mem words).head p ≡ 0 = z (head_word p) in omega arith;
           };
           waits = record {

@@ -9,8 +9,8 @@ use Rattle.board_rule.specs.Records.{Claimed, Ended, Pending, Walk}
 use Rattle.board_rule.specs.Words.{Mem, put}
 use Rattle.board_rule.specs.Waiters.{IsLater}
 use Rattle.board_rule.specs.Seats.{Each, waits_at, with_wait}
-use Rattle.board_rule.specs.Rule.{HoldsGoal, KeepsBlank, IsPromised, KeepsPromises, KeepsRights, Stays, IsRecorded}
-use Rattle.board_rule.specs.Rule.{IsStored, IsRaised, WaitedFor, IsWalked, held, ended}
+use Rattle.board_rule.specs.Soundness.{HoldsGoal, KeepsBlank, IsPromised, KeepsPromises, KeepsRights, Stays, IsRecorded}
+use Rattle.board_rule.specs.Soundness.{IsStored, IsRaised, WaitedFor, IsWalked, held, ended}
 use Rattle.board_rule.specs.declared.hands.Hands.{Hands}
 use Rattle.board_rule.proofs.Lists.{put_here, put_else, put_cases, each_as, total_same}
 use Rattle.board_rule.proofs.Rights.{rights_at, done_at, rights_moved}
@@ -107,7 +107,7 @@ module _ (meaning : Meaning) (capacity : ℕ) (m : Mem) (c to : ℕ) (was_open :
           running = was.running ∙ omega (arith, h, d);
           small = was.small;
           closed = λ one. let closed = was.closed (sym d ∙ one) in absurd (omega arith);
-          settled = λ one. was.settled (sym d ∙ one);
+          run_ended = λ one. was.run_ended (sym d ∙ one);
           is_open = λ _. subst (λ x. x < 2 ^ 63) (sym (put_here m.head c to)) is_open;
         })
         old

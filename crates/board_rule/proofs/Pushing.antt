@@ -12,7 +12,7 @@ use Rattle.board_rule.specs.Records.{Claimed, Pending}
 use Rattle.board_rule.specs.Words.{Mem, mem, put, head_word}
 use Rattle.board_rule.specs.Waiters.{first_of, head_of, pushed, IsChain, IsLater, waiting}
 use Rattle.board_rule.specs.Seats.{Each, in_hand, head_seen, wait_put}
-use Rattle.board_rule.specs.Rule.{ArePending, IsRaised, Stays, KeepsWaits, AreHands, IsSoundBy, IsSound}
+use Rattle.board_rule.specs.Soundness.{ArePending, IsRaised, Stays, KeepsWaits, AreHands, IsSoundBy, IsSound}
 use Rattle.board_rule.specs.May.{MayPush, HasPart}
 use Rattle.board_rule.specs.Plays.{Sat, TellsPutWait, PushesWait, Tells}
 use Rattle.board_rule.specs.declared.hands.Hands.{Hands}

@@ -13,8 +13,9 @@ use Rattle.word_table.proofs.ProbingLemmas.{put_keeps_set}
 use Rattle.board_rule.specs.Meaning.{Meaning}
 use Rattle.board_rule.specs.Words.{Mem, mem, put, cell_word}
 use Rattle.board_rule.specs.Seats.{looked, placed}
-use Rattle.board_rule.specs.Rule.{AreCells, HoldsGoal, IsBlank, KeepsBlank, IsPromised, KeepsPromises, Stays, AreHands}
-use Rattle.board_rule.specs.Rule.{IsSoundBy, IsSound}
+use Rattle.board_rule.specs.Soundness.{AreCells, HoldsGoal, IsBlank, KeepsBlank, IsPromised, KeepsPromises, Stays}
+use Rattle.board_rule.specs.Soundness.{AreHands}
+use Rattle.board_rule.specs.Soundness.{IsSoundBy, IsSound}
 use Rattle.board_rule.specs.May.{MayPut, HasPart}
 use Rattle.board_rule.specs.Plays.{Sat, TellsPut, PutsIn, Tells}
 use Rattle.board_rule.specs.declared.hands.Hands.{Hands}

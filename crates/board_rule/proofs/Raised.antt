@@ -6,7 +6,7 @@ use Rattle.std.proofs.lemmas.Bool.{cases_eq}
 use Rattle.board_rule.specs.Records.{Claimed, Pending}
 use Rattle.board_rule.specs.Waiters.{waiting}
 use Rattle.board_rule.specs.Seats.{Among, Each, waits_at}
-use Rattle.board_rule.specs.Rule.{IsRaised}
+use Rattle.board_rule.specs.Soundness.{IsRaised}
 use Rattle.board_rule.proofs.Lists.{absent_each, each_at, each_as}
 use Rattle.board_rule.proofs.Chains.{count}
 use Rattle.board_rule.proofs.AnswerWords.{each_both}

@@ -8,7 +8,7 @@ use lib.ListN.{get_elem?}
 use Rattle.std.proofs.lemmas.Bool.{cases_eq}
 use Rattle.board_rule.specs.Records.{Claimed, Ended}
 use Rattle.board_rule.specs.Seats.{Each, times, without}
-use Rattle.board_rule.specs.Rule.{AreRights, KeepsBlank, KeepsRights, held, ended}
+use Rattle.board_rule.specs.Soundness.{AreRights, KeepsBlank, KeepsRights, held, ended}
 use Rattle.board_rule.specs.Meaning.{Meaning}
 use Rattle.board_rule.specs.Words.{Mem}
 use Rattle.std.specs.Int.{bit_at}
@@ -92,7 +92,7 @@ module _ {R : Type 0} (views : List (Hands R)) (id : ℕ) (v w : Hands R) (mine 
         running = ap (λ x. bit_at x 8) (runs p ne) ∙ was.running ∙ omega (arith, h, d);
         small = λ i high. ap (λ x. bit_at x i) (runs p ne) ∙ was.small i high;
         closed = λ one. heads p ne ∙ was.closed (sym d ∙ one);
-        settled = λ one. runs p ne ∙ was.settled (sym d ∙ one);
+        run_ended = λ one. runs p ne ∙ was.run_ended (sym d ∙ one);
         is_open = λ zero_done. subst (λ x. x < 2 ^ 63) (sym (heads p ne)) (was.is_open (sym d ∙ zero_done));
       })
       (cases_eq p place)

@@ -7,8 +7,9 @@ use Rattle.board_rule.specs.Meaning.{Meaning}
 use Rattle.board_rule.specs.Words.{Mem, mem, put, full_word, cell_word, run_word, head_word}
 use Rattle.board_rule.specs.Looks.{RemembersAbsence}
 use Rattle.board_rule.specs.Seats.{Each, changed}
-use Rattle.board_rule.specs.Rule.{HoldsGoal, KeepsBlank, KeepsRights, KeepsWaits, Stays, AreHands, EndsClaims, IsStored}
-use Rattle.board_rule.specs.Rule.{IsRaised, ArePending, IsWalked, IsSoundBy, IsSound}
+use Rattle.board_rule.specs.Soundness.{HoldsGoal, KeepsBlank, KeepsRights, KeepsWaits, Stays, AreHands, EndsClaims}
+use Rattle.board_rule.specs.Soundness.{IsStored}
+use Rattle.board_rule.specs.Soundness.{IsRaised, ArePending, IsWalked, IsSoundBy, IsSound}
 use Rattle.board_rule.specs.declared.hands.Hands.{Hands}
 use Rattle.board_rule.proofs.Lists.{put_else, total_same}
 use Rattle.board_rule.proofs.Stores.{put_run}

@@ -9,7 +9,7 @@ use Rattle.board_rule.specs.Meaning.{Meaning}
 use Rattle.board_rule.specs.Records.{Claimed, Paused, Ended}
 use Rattle.board_rule.specs.Words.{mem}
 use Rattle.board_rule.specs.Seats.{times, in_hand, lasting, spent, parted, part, joined}
-use Rattle.board_rule.specs.Rule.{IsRecorded, AreHands, OfAll, KeepsAlone, IsSound, held, ended}
+use Rattle.board_rule.specs.Soundness.{IsRecorded, AreHands, OfAll, KeepsAlone, IsSound, held, ended}
 use Rattle.board_rule.specs.declared.hands.Hands.{Hands}
 use Rattle.board_rule.proofs.Lists.{some_below, each_append, times-append, total-append, total-set, total_same}
 use Rattle.board_rule.proofs.Frames.{are_rights_as, awake_has, of_all_set}

@@ -11,8 +11,8 @@ use Rattle.board_rule.specs.Records.{Paused, Ended}
 use Rattle.board_rule.specs.Words.{Mem, mem, put, run_word}
 use Rattle.board_rule.specs.Waiters.{cleared}
 use Rattle.board_rule.specs.Seats.{times, suspended}
-use Rattle.board_rule.specs.Rule.{KeepsRights, IsStored, IsRaised, ArePending, IsSound, held}
-use Rattle.board_rule.specs.Rule.{ended}
+use Rattle.board_rule.specs.Soundness.{KeepsRights, IsStored, IsRaised, ArePending, IsSound, held}
+use Rattle.board_rule.specs.Soundness.{ended}
 use Rattle.board_rule.specs.May.{HasPart, HasRight, MaySuspend}
 use Rattle.board_rule.specs.Plays.{Sat, TellsSuspend, SuspendsAt, Tells}
 use Rattle.board_rule.specs.declared.hands.Hands.{Hands}
@@ -50,7 +50,7 @@ rights_suspended capacity m views id v place mine has old =
       small = λ i high. ap (λ n. bit_at n i) (put_here m.run place x)
           ∙ cleared_none (m.run place) 8 i (was.small i high);
       closed = λ one_done. absurd (omega arith);
-      settled = λ one_done. absurd (omega arith);
+      run_ended = λ one_done. absurd (omega arith);
       is_open = λ _. is.is_open;
     })
     old

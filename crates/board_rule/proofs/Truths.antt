@@ -7,7 +7,7 @@ use Rattle.board_rule.specs.Words.{Mem, mem, cell_word}
 use Rattle.board_rule.specs.Looks.{SawOthers, ShowsFinished, seen_closed, child_of, ShowsEntry, seen_there, asked_by}
 use Rattle.board_rule.specs.Looks.{finished, ShowsPromise, ForgetsNone}
 use Rattle.board_rule.proofs.Chains.{later_closed}
-use Rattle.board_rule.specs.Rule.{AreCells, Stands, IsFinished, IsPromised, KeepsPromises, Stays}
+use Rattle.board_rule.specs.Soundness.{AreCells, Stands, IsFinished, IsPromised, KeepsPromises, Stays}
 
 module _ (meaning : Meaning) (capacity : ℕ) (m : Mem) (promises : KeepsPromises meaning capacity m.cell m.head m.cost
     m.node)

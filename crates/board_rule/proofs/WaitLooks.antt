@@ -10,7 +10,7 @@ use Rattle.board_rule.specs.Records.{Claimed, Pending, Walk}
 use Rattle.board_rule.specs.Words.{Mem, mem, head_word, next_word}
 use Rattle.board_rule.specs.Waiters.{first_of, rest_of, IsChain, waiting}
 use Rattle.board_rule.specs.Seats.{Each, times, head_seen, next_read}
-use Rattle.board_rule.specs.Rule.{IsRaised, ArePending, IsWalked, Stays, AreHands, IsSound}
+use Rattle.board_rule.specs.Soundness.{IsRaised, ArePending, IsWalked, Stays, AreHands, IsSound}
 use Rattle.board_rule.specs.May.{MaySee, HasPart, MayWalk}
 use Rattle.board_rule.specs.Plays.{Sat, TellsSeeHead, TellsReadNext, SeesHeadAt, ReadsNextOf, Tells}
 use Rattle.board_rule.specs.declared.hands.Hands.{Hands}

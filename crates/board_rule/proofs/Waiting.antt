@@ -11,7 +11,7 @@ use Rattle.board_rule.specs.Records.{Claimed}
 use Rattle.board_rule.specs.Words.{Mem, mem, put, run_word}
 use Rattle.board_rule.specs.Waiters.{wait_bit}
 use Rattle.board_rule.specs.Seats.{Each, waits_at, in_hand, wait_begun}
-use Rattle.board_rule.specs.Rule.{IsRaised, KeepsRights, KeepsWaits, IsSound, held, ended}
+use Rattle.board_rule.specs.Soundness.{IsRaised, KeepsRights, KeepsWaits, IsSound, held, ended}
 use Rattle.board_rule.specs.May.{HasPart, HasRight, MayBegin}
 use Rattle.board_rule.specs.Plays.{Sat, TellsBeginWait, BeginsAt, Tells}
 use Rattle.board_rule.specs.declared.hands.Hands.{Hands}
@@ -57,7 +57,7 @@ rights_begun capacity m views id v place mine may old =
       small = λ i high. ap (λ n. bit_at n i) (put_here m.run place x) ∙ set_other (m.run place) b i (λ e. omega arith)
           ∙ was.small i high;
       closed = λ one. absurd (omega (arith, is.not_ended));
-      settled = λ one. absurd (omega (arith, is.not_ended));
+      run_ended = λ one. absurd (omega (arith, is.not_ended));
       is_open = λ _. is.is_open;
     })
     old

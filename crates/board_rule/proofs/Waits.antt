@@ -9,7 +9,7 @@ use Rattle.board_rule.specs.Records.{Claimed, Pending, Walk}
 use Rattle.board_rule.specs.Words.{Mem, put}
 use Rattle.board_rule.specs.Waiters.{wait_bit, waiting, head_of, below}
 use Rattle.board_rule.specs.Seats.{Among, Each, total, in_hand}
-use Rattle.board_rule.specs.Rule.{KeepsBlank, IsRaised, IsPending, ArePending, KeepsWaits}
+use Rattle.board_rule.specs.Soundness.{KeepsBlank, IsRaised, IsPending, ArePending, KeepsWaits}
 use Rattle.board_rule.specs.declared.hands.Hands.{Hands}
 use Rattle.board_rule.proofs.Lists.{put_cases, each_as, among_counts, total_same, term_le}
 use Rattle.board_rule.proofs.Chains.{count, below_term}

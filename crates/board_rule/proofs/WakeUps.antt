@@ -11,7 +11,7 @@ use Rattle.board_rule.specs.Meaning.{Meaning}
 use Rattle.board_rule.specs.Words.{Mem}
 use Rattle.board_rule.specs.Waiters.{wait_bit, below}
 use Rattle.board_rule.specs.Seats.{Among, total, in_hand, spent}
-use Rattle.board_rule.specs.Rule.{HoldsGoal, KeepsWaits, IsSoundBy, held, ended}
+use Rattle.board_rule.specs.Soundness.{HoldsGoal, KeepsWaits, IsSoundBy, held, ended}
 use Rattle.board_rule.specs.declared.hands.Hands.{Hands}
 use Rattle.board_rule.proofs.Lists.{each_at, terms_le}
 use Rattle.board_rule.proofs.Rights.{rights_at, counts_none, bit_runs}

@@ -5,5 +5,5 @@ pub mod Waiters
 pub mod Looks
 pub mod Seats
 pub mod May
-pub mod Rule
+pub mod Soundness
 pub mod Plays

@@ -7,7 +7,7 @@ use Rattle.board_rule.specs.Meaning.{Meaning}
 use Rattle.board_rule.specs.Words.{cell_word, run_word, head_word, cost_word, node_word, who_word, next_word}
 use Rattle.board_rule.specs.Records.{Pending}
 use Rattle.board_rule.specs.Waiters.{head_of}
-use Rattle.board_rule.specs.Rule.{IsSound}
+use Rattle.board_rule.specs.Soundness.{IsSound}
 use Rattle.board_rule.specs.declared.hands.Hands.{Hands}
 use Rattle.board_rule.specs.Seats.{Among, Each, answered_right, looked, placed, claimed, suspended, finished}
 use Rattle.board_rule.specs.Seats.{cost_stored, node_stored, who_stored, filled, wait_begun, head_seen, next_stored}

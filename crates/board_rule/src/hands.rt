@@ -1,7 +1,8 @@
 ghost use Rattle.std.specs.Prelude.{ℕ, List, Option};
 ghost use Rattle.std.specs.Borrow.{ftrue};
 ghost use Rattle.std.specs.Coded.{coded_ℕ, coded_list, coded×, coded_option};
-ghost use Rattle.board_rule.specs.Records.{Claimed, Paused, Ended, Pending, Walk, claimed_coded, paused_coded, ended_coded, pending_coded, walk_coded};
+ghost use Rattle.board_rule.specs.Records.{Claimed, Paused, Ended, Pending, Walk, claimed_coded, paused_coded};
+ghost use Rattle.board_rule.specs.Records.{ended_coded, pending_coded, walk_coded};
 
 use std::marker::{Model, PhantomData};
 

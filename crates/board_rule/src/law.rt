@@ -1,4 +1,4 @@
-ghost use Rattle.board_rule.specs.Rule.{IsSound};
+ghost use Rattle.board_rule.specs.Soundness.{IsSound};
 ghost use Rattle.board_rule.specs.Seats.{opening_hands, parted, part, joined, spent};
 
 use crate::hands::Hands;

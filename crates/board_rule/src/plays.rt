@@ -1,5 +1,7 @@
 // The kinds of step, each with what it tells.
-ghost use Rattle.board_rule.specs.Plays.{TellsLook, TellsPut, TellsClaim, TellsSuspend, TellsClose, TellsStoreCost, TellsStoreNode, TellsStoreWho, TellsFill, TellsBeginWait, TellsSeeHead, TellsStoreNext, TellsPutWait, TellsReadNext, TellsClearBit, TellsDropWait};
+ghost use Rattle.board_rule.specs.Plays.{TellsLook, TellsPut, TellsClaim, TellsSuspend, TellsClose, TellsStoreCost};
+ghost use Rattle.board_rule.specs.Plays.{TellsStoreNode, TellsStoreWho, TellsFill, TellsBeginWait, TellsSeeHead};
+ghost use Rattle.board_rule.specs.Plays.{TellsStoreNext, TellsPutWait, TellsReadNext, TellsClearBit, TellsDropWait};
 
 use crate::hands::Hands;
 use crate::rules::GoalRules;

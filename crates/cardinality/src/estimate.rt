@@ -4,16 +4,16 @@
 ghost use Rattle.std.specs.Prelude.{ℕ, ◌≡◌, ◌≤◌, ◌<◌, ◌*◌};
 ghost use Rattle.query_core.specs.declared.words.KeyParts.{KeyParts};
 ghost use Rattle.query_core.specs.declared.words.KeyParts.TheVariants.{Filter};
-ghost use Rattle.query_core.specs.Keys.{IsKey, Names, IsGroup};
-ghost use Rattle.cardinality.specs.Rows.{own_rows, rows_of as rows_by, capped as cap_of};
-ghost use Rattle.cardinality.specs.Rows.{table_rows as rows_of_table, joined_rows as rows_joined};
-ghost use Rattle.cardinality.specs.Rows.{rows_next as rows_joined_next, rows_with as rows_joined_with};
-ghost use Rattle.cardinality.specs.Rows.{rows_after as rows_left, rows_by as rows_left_by, applies as applies_to};
-ghost use Rattle.cardinality.specs.Rows.{is_over as is_about, is_right_of as right_of};
-ghost use Rattle.cardinality.specs.Rows.{is_column_so_far as column_so_far};
-ghost use Rattle.cardinality.specs.Rows.{is_right_so_far as right_so_far};
-ghost use Rattle.cardinality.specs.Rows.{input_rows as rows_of_input, grouped_rows as rows_grouped};
-ghost use Rattle.cardinality.specs.Rows.{partial_rows as rows_partial, combinations as combinations_of};
+ghost use Rattle.query_core.specs.Keys.{IsKey, NamesGroup, IsGroup};
+ghost use Rattle.cardinality.specs.Rows.{own_rows, rows_of as the_rows_of, capped as the_capped};
+ghost use Rattle.cardinality.specs.Rows.{table_rows as the_table_rows, joined_rows as the_joined_rows};
+ghost use Rattle.cardinality.specs.Rows.{rows_next as the_rows_next, rows_with as the_rows_with};
+ghost use Rattle.cardinality.specs.Rows.{rows_after as the_rows_after, rows_by as the_rows_by, applies as the_applies};
+ghost use Rattle.cardinality.specs.Rows.{is_over as the_is_over, is_right_of as the_is_right_of};
+ghost use Rattle.cardinality.specs.Rows.{is_column_so_far as the_is_column_so_far};
+ghost use Rattle.cardinality.specs.Rows.{is_right_so_far as the_is_right_so_far};
+ghost use Rattle.cardinality.specs.Rows.{input_rows as the_input_rows, grouped_rows as the_grouped_rows};
+ghost use Rattle.cardinality.specs.Rows.{partial_rows as the_partial_rows, combinations as the_combinations};
 
 use crate::factor::{Factor, factor_of, values_of};
 use query_core::{Item, Key, KeyParts, Operand, Pred, Query, sets};
@@ -24,16 +24,16 @@ const CAP: u64 = 1_000_000_000_000;
 /// The estimated rows of a group, at most 10^12.
 pub fn rows(query: &Query, key: Key) -> u64
     requires { IsKey query.now key }
-    ensures value { (g : KeyParts) → Names query.now key g → result ≡ rows_by query.now g }
+    ensures value { (g : KeyParts) → NamesGroup query.now key g → result ≡ the_rows_of query.now g }
     ensures most { result ≤ 1000000000000 }
-    ensures own { (t : ℕ) → Names query.now key (Filter t) → result ≡ own_rows query.now t }
+    ensures own { (t : ℕ) → NamesGroup query.now key (Filter t) → result ≡ own_rows query.now t }
 {
     rows_of(query, query.group(key))
 }
 
 fn rows_of(query: &Query, group: KeyParts) -> u64
     requires { IsGroup query.now group }
-    ensures value { result ≡ rows_by query.now group }
+    ensures value { result ≡ the_rows_of query.now group }
     ensures most { result ≤ 1000000000000 }
 {
     match group {
@@ -46,7 +46,7 @@ fn rows_of(query: &Query, group: KeyParts) -> u64
 }
 
 fn grouped_rows(query: &Query) -> u64
-    ensures value { result ≡ rows_grouped query.now }
+    ensures value { result ≡ the_grouped_rows query.now }
     ensures most { result ≤ 1000000000000 }
 {
     if query.group_by.is_empty() {
@@ -56,7 +56,7 @@ fn grouped_rows(query: &Query) -> u64
 }
 
 fn partial_rows(query: &Query) -> u64
-    ensures value { result ≡ rows_partial query.now }
+    ensures value { result ≡ the_partial_rows query.now }
     ensures most { result ≤ 1000000000000 }
 {
     if query.group_by.is_empty() {
@@ -67,7 +67,7 @@ fn partial_rows(query: &Query) -> u64
 
 /// The rows that are grouped.
 fn input_rows(query: &Query) -> u64
-    ensures value { result ≡ rows_of_input query.now }
+    ensures value { result ≡ the_input_rows query.now }
     ensures most { result ≤ 1000000000000 }
 {
     match query.input() {
@@ -81,7 +81,7 @@ fn input_rows(query: &Query) -> u64
 
 /// The combinations of values of some columns.
 fn combinations(items: &[Item], columns: &[u32]) -> u64
-    ensures value { result ≡ combinations_of items.now columns.now }
+    ensures value { result ≡ the_combinations items.now columns.now }
     ensures most { result ≤ 1000000000000 }
 {
     let mut count = 1;
@@ -93,7 +93,7 @@ fn combinations(items: &[Item], columns: &[u32]) -> u64
 
 /// The rows of the join of a set of tables.
 fn joined_rows(query: &Query, set: u32) -> u64
-    ensures value { result ≡ rows_joined query.now set }
+    ensures value { result ≡ the_joined_rows query.now set }
     ensures most { result ≤ 1000000000000 }
 {
     let mut rows = 1;
@@ -105,7 +105,7 @@ fn joined_rows(query: &Query, set: u32) -> u64
 
 fn rows_next(query: &Query, set: u32, table: u32, rows: u64) -> u64
     requires { rows ≤ 1000000000000 }
-    ensures value { result ≡ rows_joined_next query.now set table rows }
+    ensures value { result ≡ the_rows_next query.now set table rows }
     ensures most { result ≤ 1000000000000 }
 {
     if sets::has(set, table) {
@@ -117,7 +117,7 @@ fn rows_next(query: &Query, set: u32, table: u32, rows: u64) -> u64
 
 /// The rows once the table has joined those before it.
 fn rows_with(query: &Query, set: u32, table: u32, rows: u64) -> u64
-    ensures value { result ≡ rows_joined_with query.now set table rows }
+    ensures value { result ≡ the_rows_with query.now set table rows }
     ensures most { result ≤ 1000000000000 }
 {
     let mut left = capped_product(rows, table_rows(query, table));
@@ -129,7 +129,7 @@ fn rows_with(query: &Query, set: u32, table: u32, rows: u64) -> u64
 
 /// The rows that a predicate leaves, if it applies here.
 fn rows_after(query: &Query, set: u32, table: u32, rows: u64, pred: &Pred) -> u64
-    ensures value { result ≡ rows_left query.now.items set table rows pred.now }
+    ensures value { result ≡ the_rows_after query.now.items set table rows pred.now }
     ensures fewer { result ≤ rows }
 {
     if applies(query, set, table, pred) {
@@ -143,14 +143,14 @@ fn rows_after(query: &Query, set: u32, table: u32, rows: u64, pred: &Pred) -> u6
 fn rows_by(rows: u64, factor: Factor) -> u64
     requires some { 1 ≤ factor.den }
     requires share { factor.num ≤ factor.den }
-    ensures value { result ≡ rows_left_by rows factor }
+    ensures value { result ≡ the_rows_by rows factor }
     ensures fewer { result ≤ rows }
 {
     (rows as u128 * factor.num as u128).div_ceil(factor.den as u128) as u64
 }
 
 fn applies(query: &Query, set: u32, table: u32, pred: &Pred) -> bool
-    ensures { result ≡ applies_to query.now.items set table pred.now }
+    ensures { result ≡ the_applies query.now.items set table pred.now }
 {
     is_over(query, table, pred)
         && is_column_so_far(query, set, table, pred.left)
@@ -158,13 +158,13 @@ fn applies(query: &Query, set: u32, table: u32, pred: &Pred) -> bool
 }
 
 fn is_over(query: &Query, table: u32, pred: &Pred) -> bool
-    ensures { result ≡ is_about query.now.items table pred.now }
+    ensures { result ≡ the_is_over query.now.items table pred.now }
 {
     query.is_column_of(table, pred.left) || is_right_of(query, table, &pred.right)
 }
 
 fn is_right_of(query: &Query, table: u32, right: &Operand) -> bool
-    ensures { result ≡ right_of query.now.items table right.now }
+    ensures { result ≡ the_is_right_of query.now.items table right.now }
 {
     match right {
         Operand::Item(number) => query.is_column_of(table, *number),
@@ -174,7 +174,7 @@ fn is_right_of(query: &Query, table: u32, right: &Operand) -> bool
 }
 
 fn is_right_so_far(query: &Query, set: u32, table: u32, right: &Operand) -> bool
-    ensures { result ≡ right_so_far query.now.items set table right.now }
+    ensures { result ≡ the_is_right_so_far query.now.items set table right.now }
 {
     match right {
         Operand::Item(number) => is_column_so_far(query, set, table, *number),
@@ -184,7 +184,7 @@ fn is_right_so_far(query: &Query, set: u32, table: u32, right: &Operand) -> bool
 }
 
 fn is_column_so_far(query: &Query, set: u32, table: u32, number: u32) -> bool
-    ensures { result ≡ column_so_far query.now.items set table number }
+    ensures { result ≡ the_is_column_so_far query.now.items set table number }
 {
     match query.items.as_slice().get(number as usize) {
         Some(item) => sets::has(set, item.table) && item.table <= table,
@@ -193,7 +193,7 @@ fn is_column_so_far(query: &Query, set: u32, table: u32, number: u32) -> bool
 }
 
 fn table_rows(query: &Query, table: u32) -> u64
-    ensures value { result ≡ rows_of_table query.now table }
+    ensures value { result ≡ the_table_rows query.now table }
     ensures most { result ≤ 1000000000000 }
 {
     match query.tables.as_slice().get(table as usize) {
@@ -204,7 +204,7 @@ fn table_rows(query: &Query, table: u32) -> u64
 
 /// The product, or 10^12 where it is more.
 fn capped_product(a: u64, b: u64) -> u64
-    ensures value { result ≡ cap_of (a * b) }
+    ensures value { result ≡ the_capped (a * b) }
     ensures most { result ≤ 1000000000000 }
 {
     (a as u128 * b as u128).min(CAP as u128) as u64

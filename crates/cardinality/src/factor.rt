@@ -4,9 +4,11 @@
 ghost use Rattle.std.specs.Prelude.{◌≡◌, ◌≤◌, IsTrue, IfSome, option_map};
 ghost use Rattle.std.specs.List.{list_all};
 ghost use Rattle.query_core.specs.Histogram.{is_histogram, may_be_histogram};
-ghost use Rattle.cardinality.specs.Factor.{factor_of as factor_by_pred, equality_divisor as equality_by, values_of as values_by};
-ghost use Rattle.cardinality.specs.Factor.{factor, histogram_of as histogram_by, integer_of as integer_in};
-ghost use Rattle.cardinality.specs.Factor.{integers_factor as factor_of_integers, range_factor as factor_of_range, third};
+ghost use Rattle.cardinality.specs.Factor.{factor_of as the_factor_of, equality_divisor as the_equality_divisor};
+ghost use Rattle.cardinality.specs.Factor.{values_of as the_values_of};
+ghost use Rattle.cardinality.specs.Factor.{factor, histogram_of as the_histogram_of, integer_of as the_integer_of};
+ghost use Rattle.cardinality.specs.Factor.{integers_factor as the_integers_factor, range_factor as the_range_factor};
+ghost use Rattle.cardinality.specs.Factor.{third};
 
 use crate::histogram::{Range, share_met};
 use query_core::{CmpOp, Histogram, Item, Operand, Pred};
@@ -21,7 +23,7 @@ pub struct Factor {
 /// The factor of a predicate.
 pub fn factor_of(items: &[Item], pred: &Pred) -> Factor
     requires { IsTrue (list_all (λ item. may_be_histogram item.histogram) items.now) }
-    ensures value { result ≡ factor_by_pred items.now pred.now }
+    ensures value { result ≡ the_factor_of items.now pred.now }
     ensures some { 1 ≤ result.den }
     ensures share { result.num ≤ result.den }
 {
@@ -52,7 +54,7 @@ pub fn a_third() -> Factor
 }
 
 fn integer_of(right: &Operand) -> Option<i64>
-    ensures { result ≡ integer_in right.now }
+    ensures { result ≡ the_integer_of right.now }
 {
     match right {
         Operand::Item(_) => None,
@@ -63,7 +65,7 @@ fn integer_of(right: &Operand) -> Option<i64>
 
 fn range_factor(items: &[Item], left: u32, range: Option<Range>) -> Factor
     requires { IsTrue (list_all (λ item. may_be_histogram item.histogram) items.now) }
-    ensures value { result ≡ factor_of_range items.now left range }
+    ensures value { result ≡ the_range_factor items.now left range }
     ensures some { 1 ≤ result.den }
     ensures share { result.num ≤ result.den }
 {
@@ -75,7 +77,7 @@ fn range_factor(items: &[Item], left: u32, range: Option<Range>) -> Factor
 
 fn integers_factor(items: &[Item], left: u32, range: Range) -> Factor
     requires { IsTrue (list_all (λ item. may_be_histogram item.histogram) items.now) }
-    ensures value { result ≡ factor_of_integers items.now left range }
+    ensures value { result ≡ the_integers_factor items.now left range }
     ensures some { 1 ≤ result.den }
     ensures share { result.num ≤ result.den }
 {
@@ -87,7 +89,7 @@ fn integers_factor(items: &[Item], left: u32, range: Range) -> Factor
 
 fn histogram_of(items: &[Item], number: u32) -> Option<&Histogram>
     requires { IsTrue (list_all (λ item. may_be_histogram item.histogram) items.now) }
-    ensures value { option_map (λ h. h.now) result ≡ histogram_by items.now number }
+    ensures value { option_map (λ h. h.now) result ≡ the_histogram_of items.now number }
     ensures kept { IfSome result (λ h. IsTrue (is_histogram h.now)) }
 {
     match items.get(number as usize) {
@@ -97,7 +99,7 @@ fn histogram_of(items: &[Item], number: u32) -> Option<&Histogram>
 }
 
 fn equality_divisor(items: &[Item], left: u32, right: &Operand) -> u64
-    ensures value { result ≡ equality_by items.now left right.now }
+    ensures value { result ≡ the_equality_divisor items.now left right.now }
     ensures some { 1 ≤ result }
 {
     match right {
@@ -109,7 +111,7 @@ fn equality_divisor(items: &[Item], left: u32, right: &Operand) -> u64
 
 /// The distinct values of an item, at least 1.
 pub fn values_of(items: &[Item], number: u32) -> u64
-    ensures value { result ≡ values_by items.now number }
+    ensures value { result ≡ the_values_of items.now number }
     ensures some { 1 ≤ result }
 {
     match items.get(number as usize) {

@@ -3,7 +3,8 @@
 
 ghost use Rattle.std.specs.Prelude.{◌≡◌, ◌<◌, ◌≤◌, ◌^◌, ◌+ℤ◌, pos, IsTrue, if◌then◌else◌};
 ghost use Rattle.query_core.specs.Histogram.{is_histogram};
-ghost use Rattle.cardinality.specs.Factor.{all_rows as rows_of_all, has_some, rows_met, share_met as share_in, third};
+ghost use Rattle.cardinality.specs.Factor.{all_rows as the_all_rows, has_some, rows_met, share_met as the_share_met};
+ghost use Rattle.cardinality.specs.Factor.{third};
 
 use crate::factor::{Factor, a_third};
 use query_core::{Bucket, Histogram};
@@ -20,7 +21,7 @@ pub enum Range {
 /// The share of a histogram's rows that lies in buckets with a value of the range.
 pub fn share_met(histogram: &Histogram, range: Range) -> Factor
     requires { IsTrue (is_histogram histogram.now) }
-    ensures value { result ≡ share_in range histogram.now }
+    ensures value { result ≡ the_share_met range histogram.now }
     ensures some { 1 ≤ result.den }
     ensures share { result.num ≤ result.den }
 {
@@ -36,15 +37,15 @@ pub fn share_met(histogram: &Histogram, range: Range) -> Factor
 }
 
 fn all_rows(buckets: &[Bucket]) -> u64
-    requires { rows_of_all buckets.now < 2 ^ 64 }
-    ensures { result ≡ rows_of_all buckets.now }
+    requires { the_all_rows buckets.now < 2 ^ 64 }
+    ensures { result ≡ the_all_rows buckets.now }
 {
     buckets.iter().map(|bucket| bucket.rows).sum()
 }
 
 /// The rows of the buckets with a value of the range, where the first one begins at `low`.
 fn rows_from(range: Range, low: i64, buckets: &[Bucket]) -> u64
-    requires { rows_of_all buckets.now < 2 ^ 64 }
+    requires { the_all_rows buckets.now < 2 ^ 64 }
     ensures { result ≡ rows_met range low buckets.now }
 {
     match buckets.split_first() {
@@ -57,7 +58,7 @@ fn rows_from(range: Range, low: i64, buckets: &[Bucket]) -> u64
 
 /// The same of the buckets above one.
 fn rows_above(range: Range, first: &Bucket, buckets: &[Bucket]) -> u64
-    requires { rows_of_all buckets.now < 2 ^ 64 }
+    requires { the_all_rows buckets.now < 2 ^ 64 }
     ensures { result ≡ rows_met range (first.now.upto +ℤ pos 1) buckets.now }
 {
     let mut rows = 0;

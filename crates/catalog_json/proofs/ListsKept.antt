@@ -50,12 +50,12 @@ pub places_kept : (list : NameList) (names : List (List ℕ)) (found : Option Da
     → places_at list names found ≡ Ok places → IsColumnList (length names) places
 unfolding places_at
 places_kept list names found listed e =
-    let ds = bind_ok (list_at 1 8 (places.Names list) found) _ listed e in
+    let ds = bind_ok (list_at 1 8 (places.NamesOf list) found) _ listed e in
     let are = all_keep (listed_at list names) (ArePlaces (length names)) (listed_place_kept list names) [] ds.0 listed
     (record { known = refl; differ = refl }) ds.2 in
     record {
       counted = rw (each_counts (listed_at list names) ds.0 listed ds.2)
-          (list_kept 1 8 (places.Names list) found ds.0 ds.1);
+          (list_kept 1 8 (places.NamesOf list) found ds.0 ds.1);
       known = are.known;
       differ = are.differ;
     }
@@ -89,7 +89,7 @@ placing_by_kept : (version : CatalogVersion) (t : ℕ) (names : List (List ℕ))
     → IsPlacing (length names) placing
 unfolding placing_by
 placing_by_kept version t names found (Some text) placing e =
-    named_kept version (places.Names (Distribution t)) text (length names) placing e
+    named_kept version (places.NamesOf (Distribution t)) text (length names) placing e
 placing_by_kept version t names found None placing e =
     hashed_kept (length names) (places_at (Distribution t) names found) placing
     (places_kept (Distribution t) names found) e

@@ -15,7 +15,7 @@ use Rattle.catalog_json.specs.declared.place.Place.{Place}
 use Rattle.catalog_json.specs.declared.fault.Fault.TheVariants.{Shape, Range, Twice}
 use Rattle.query_core.specs.Catalog.{is_catalog_name}
 use Rattle.query_core.specs.Histogram.{within}
-use Rattle.catalog_json.specs.Walk.{Gives, Reading, each, elements, in_limits, list_at, name_at, named, new_name_at}
+use Rattle.catalog_json.specs.Walk.{Yields, Reading, each, elements, in_limits, list_at, name_at, named, new_name_at}
 use Rattle.catalog_json.specs.Walk.{new_place, number_at, of_length, whole}
 
 -- ---- numbers, names and lists
@@ -80,7 +80,7 @@ listed_kept at before test names i e = let new = new_place_kept at before (posit
 module _ {A : Type 0} (read : List A → Data → Reading A) where
   -- no more are read than there are
   pub no_more : (values : List Value) (result : Reading (List A)) (most : ℕ)
-      → Gives (each read [] (map view values)) result → length values ≤ most → IfOk result (λ xs. length xs ≤ most)
+      → Yields (each read [] (map view values)) result → length values ≤ most → IfOk result (λ xs. length xs ≤ most)
   no_more values (Ok xs) most gives le = omega
       (arith, each_counts read (map view values) xs gives, length-map values view, le)
   no_more values (Err fault) most gives le = tt

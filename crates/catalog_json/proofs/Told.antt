@@ -134,7 +134,7 @@ listed_told list names before d = goes_on faults.Memory _ _
 
 places_told : (list : NameList) (names : List (List ℕ)) (found : Option Data) → IsTold (places_at list names found)
 unfolding places_at
-places_told list names found = goes_on faults.Memory _ _ (list_told 1 8 (places.Names list) found)
+places_told list names found = goes_on faults.Memory _ _ (list_told 1 8 (places.NamesOf list) found)
     (λ ds. each_told faults.Memory (listed_at list names) (listed_told list names) [] ds)
 
 -- ---- tables
@@ -148,7 +148,7 @@ placing_by_told : (version : CatalogVersion) (t : ℕ) (names : List (List ℕ))
     (text : Option (List ℕ)) → IsTold (placing_by version t names found text)
 unfolding placing_by
 placing_by_told version t names found (Some text) = either faults.Memory (bytes_eq text (codes "random")) _ _ tt
-    (replicated_told version (places.Names (Distribution t)) text)
+    (replicated_told version (places.NamesOf (Distribution t)) text)
 placing_by_told version t names found None = seen_told faults.Memory Hashed (places_at (Distribution t) names found)
     (places_told (Distribution t) names found)
 

@@ -5,7 +5,7 @@ use Rattle.catalog_json.specs.declared.place.NameList.TheVariants.{Distribution,
 use Rattle.catalog_json.specs.declared.place.Place.{Place}
 use Rattle.catalog_json.specs.declared.place.Place.TheVariants.{Whole, Version, Segments, Tables, Table, TableName}
 use Rattle.catalog_json.specs.declared.place.Place.TheVariants.{Rows, Columns, Column, ColumnName, Ndv, Histogram, Low}
-use Rattle.catalog_json.specs.declared.place.Place.TheVariants.{Buckets, Bucket, Upto, BucketRows, Indexes, Names}
+use Rattle.catalog_json.specs.declared.place.Place.TheVariants.{Buckets, Bucket, Upto, BucketRows, Indexes, NamesOf}
 use Rattle.catalog_json.specs.declared.place.Place.TheVariants.{Listed}
 
 -- table t, and then the rest of the pointer
@@ -49,5 +49,5 @@ pointer_of (Bucket t c b) = in_bucket t c b []
 pointer_of (Upto t c b) = in_bucket t c b (codes "/upto")
 pointer_of (BucketRows t c b) = in_bucket t c b (codes "/rows")
 pointer_of (Indexes t) = in_table t (codes "/indexes")
-pointer_of (Names list) = list_pointer list
+pointer_of (NamesOf list) = list_pointer list
 pointer_of (Listed list i) = listed_pointer list i

@@ -33,8 +33,8 @@ abbrev pub Reading : Type 0 → Type 0
 Reading A = Result A Fault
 
 -- what a function returned is the reading, unless memory ran out
-abbrev pub Gives : {A : Type 0} → Reading A → Reading A → Type 0
-Gives reading returned = checked.Gives Memory reading returned
+abbrev pub Yields : {A : Type 0} → Reading A → Reading A → Type 0
+Yields reading returned = checked.Yields Memory reading returned
 
 -- ---- numbers, names, lists and objects
 
@@ -161,7 +161,7 @@ listed_at list names before d = do
 -- a list of columns
 unfoldable pub places_at : NameList → List (List ℕ) → Option Data → Reading (List ℕ)
 places_at list names found = do
-  ds ← list_at 1 8 (places.Names list) found
+  ds ← list_at 1 8 (places.NamesOf list) found
   each (listed_at list names) [] ds
 
 -- ---- tables
@@ -177,7 +177,7 @@ named_placing version at text = if bytes_eq text (codes "random") then Ok Random
 
 -- a distribution, with the text that it may be: else it is a list of the columns that are hashed
 unfoldable pub placing_by : CatalogVersion → ℕ → List (List ℕ) → Option Data → Option (List ℕ) → Reading Placing
-placing_by version t names found (Some text) = named_placing version (places.Names (Distribution t)) text
+placing_by version t names found (Some text) = named_placing version (places.NamesOf (Distribution t)) text
 placing_by version t names found None = seen Hashed (places_at (Distribution t) names found)
 
 -- a distribution

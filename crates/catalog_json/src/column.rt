@@ -1,11 +1,12 @@
 //! The columns of a table.
-ghost use Rattle.std.specs.Prelude.{◌≡◌, ◌≤◌, ◌<◌, [], ◌∷◌, ◌++◌, length, map, option_map, position, IfOk, IfErr, IfSome};
+ghost use Rattle.std.specs.Prelude.{◌≡◌, ◌≤◌, ◌<◌, [], ◌∷◌, ◌++◌, length, map, option_map, position, IfOk, IfErr};
+ghost use Rattle.std.specs.Prelude.{IfSome};
 ghost use Rattle.std.specs.List.{list_any};
 ghost use Rattle.std.specs.Str.{bytes_eq};
 ghost use Rattle.serde_json.specs.View.{view};
 ghost use Rattle.catalog_json.specs.declared.fault.Fault.TheVariants.{Memory};
 ghost use Rattle.catalog_json.specs.Columns.{names_of};
-ghost use Rattle.catalog_json.specs.Walk.{Gives, each, seen, column_at, columns_at};
+ghost use Rattle.catalog_json.specs.Walk.{Yields, each, seen, column_at, columns_at};
 
 use crate::fault::Fault;
 use crate::histogram::read_histogram_by;
@@ -85,7 +86,7 @@ impl Columns {
         t: usize,
         value: Value,
     ) -> Result<(), Fault>
-        ensures { Gives (seen (λ c. self.old ++ c ∷ []) (column_at version t self.old (view value)))
+        ensures { Yields (seen (λ c. self.old ++ c ∷ []) (column_at version t self.old (view value)))
             (seen (λ _. self.new) result) }
     {
         let c = self.len();
@@ -123,7 +124,7 @@ fn read_each_column(
     t: usize,
     values: Vec<Value>,
 ) -> Result<Columns, Fault>
-    ensures { Gives (each (column_at version t) [] (map view values.items)) result }
+    ensures { Yields (each (column_at version t) [] (map view values.items)) result }
 {
     let mut columns = Columns::with_capacity(alloc, values.len())?;
     for value in values {
@@ -139,7 +140,7 @@ pub fn read_columns(
     t: usize,
     value: Option<Value>,
 ) -> Result<Columns, Fault>
-    ensures read { Gives (columns_at version t (option_map view value)) result }
+    ensures read { Yields (columns_at version t (option_map view value)) result }
     ensures count { IfOk result (λ columns. length columns ≤ 1000) }
 {
     let values = take_list(value, 1, MOST_COLUMNS, Place::Columns(t))?;

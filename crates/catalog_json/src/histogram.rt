@@ -1,7 +1,7 @@
 //! The histogram of a column.
 ghost use Rattle.std.specs.Prelude.{◌≡◌, [], map, option_map};
 ghost use Rattle.serde_json.specs.View.{view};
-ghost use Rattle.catalog_json.specs.Walk.{Gives, each, bucket_at, end_at, goes_above, histogram_at, histogram_by};
+ghost use Rattle.catalog_json.specs.Walk.{Yields, each, bucket_at, end_at, goes_above, histogram_at, histogram_by};
 
 use crate::fault::Fault;
 use crate::member::{TRILLION, number_at, signed_at, take_list};
@@ -61,7 +61,7 @@ fn read_each_bucket(
     low: i64,
     values: Vec<Value>,
 ) -> Result<List<Bucket>, Fault>
-    ensures { Gives (each (bucket_at t c low) [] (map view values.items)) result }
+    ensures { Yields (each (bucket_at t c low) [] (map view values.items)) result }
 {
     let mut buckets = List::of(Vec::with_capacity(alloc, values.len())?);
     for value in values {
@@ -73,7 +73,7 @@ fn read_each_bucket(
 
 #[tactic(auto, unfolding(crate::specs::Walk::histogram_at))]
 fn read_histogram(alloc: Global, t: usize, c: usize, value: Value) -> Result<Histogram, Fault>
-    ensures { Gives (histogram_at t c (view value)) result }
+    ensures { Yields (histogram_at t c (view value)) result }
 {
     let mut object = Object::of(value, Place::Histogram(t, c))?;
     let low = signed_at(object.get("low"), Place::Low(t, c))?;
@@ -95,7 +95,7 @@ pub fn read_histogram_by(
     c: usize,
     value: Option<Value>,
 ) -> Result<Option<Histogram>, Fault>
-    ensures { Gives (histogram_by version t c (option_map view value)) result }
+    ensures { Yields (histogram_by version t c (option_map view value)) result }
 {
     match version {
         CatalogVersion::One => Ok(None),

@@ -3,7 +3,7 @@ ghost use Rattle.std.specs.Prelude.{◌≡◌, ◌≤◌, ◌<◌, ◌==◌, [],
 ghost use Rattle.std.specs.List.{list_any};
 ghost use Rattle.serde_json.specs.View.{view};
 ghost use Rattle.catalog_json.specs.Columns.{names_of};
-ghost use Rattle.catalog_json.specs.Walk.{Gives, each, listed_at, new_place, places_at};
+ghost use Rattle.catalog_json.specs.Walk.{Yields, each, listed_at, new_place, places_at};
 
 use crate::column::Columns;
 use crate::fault::Fault;
@@ -46,7 +46,7 @@ fn read_listed(
     value: &Value,
 ) -> Result<u32, Fault>
     requires { length columns.now ≤ 1000 }
-    ensures { Gives (listed_at list (names_of columns.now) before.now (view value.now)) result }
+    ensures { Yields (listed_at list (names_of columns.now) before.now (view value.now)) result }
 {
     let place = Place::Listed(list, before.len());
     let name = name_at(Some(value), place)?;
@@ -60,7 +60,7 @@ fn read_each_listed(
     values: &[Value],
 ) -> Result<List<u32>, Fault>
     requires { length columns.now ≤ 1000 }
-    ensures { Gives (each (listed_at list (names_of columns.now)) [] (map view values.now)) result }
+    ensures { Yields (each (listed_at list (names_of columns.now)) [] (map view values.now)) result }
 {
     let mut places = List::new(alloc);
     for value in values {
@@ -79,9 +79,9 @@ pub fn read_places(
     value: Option<&Value>,
 ) -> Result<List<u32>, Fault>
     requires { length columns.now ≤ 1000 }
-    ensures { Gives
+    ensures { Yields
         (places_at list (names_of columns.now) (option_map (λ v. view v.now) value.entry)) result }
 {
-    let values = list_at(value, 1, MOST_LISTED, Place::Names(list))?;
+    let values = list_at(value, 1, MOST_LISTED, Place::NamesOf(list))?;
     read_each_listed(alloc, list, columns, values)
 }

@@ -4,7 +4,7 @@ ghost use Rattle.std.specs.List.{list_any};
 ghost use Rattle.catalog_json.specs.declared.fault.Fault.TheVariants.{Memory};
 ghost use Rattle.std.specs.Str.{bytes_eq};
 ghost use Rattle.serde_json.specs.View.{view};
-ghost use Rattle.catalog_json.specs.Walk.{Gives, new_name_at};
+ghost use Rattle.catalog_json.specs.Walk.{Yields, new_name_at};
 
 use crate::fault::Fault;
 use crate::member::take_name;
@@ -17,11 +17,11 @@ use std::marker::Model;
 
 /// The names of tables.
 #[derive(Drop)]
-pub struct Names {
+pub struct TableNames {
     set: IndexSet<String>,
 }
 
-impl Model for Names {
+impl Model for TableNames {
     ghost use Rattle.std.specs.Prelude.{List, ℕ, map, string_bytes};
 
     ghost Value = { List (List ℕ) };
@@ -29,13 +29,13 @@ impl Model for Names {
     ghost view = { λ n. map string_bytes n.set.keys };
 }
 
-impl Names {
+impl TableNames {
     /// No names yet, and room for so many.
-    pub fn with_capacity(alloc: Global, count: usize) -> Result<Names, Fault>
+    pub fn with_capacity(alloc: Global, count: usize) -> Result<TableNames, Fault>
         ensures empty { IfOk result (λ names. names ≡ []) }
         ensures memory { IfErr result (λ e. e ≡ Memory) }
     {
-        Ok(Names {
+        Ok(TableNames {
             set: IndexSet::with_capacity(alloc, count)?,
         })
     }
@@ -58,7 +58,7 @@ impl Names {
         value: Option<Value>,
         place: Place,
     ) -> Result<Text, Fault>
-        ensures read { Gives (new_name_at place self.old (option_map view value)) result }
+        ensures read { Yields (new_name_at place self.old (option_map view value)) result }
         ensures added { IfOk result (λ name. self.new ≡ self.old ++ name ∷ []) }
     {
         let name = take_name(value, place)?;

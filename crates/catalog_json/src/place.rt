@@ -34,7 +34,7 @@ pub enum Place {
     Upto(usize, usize, usize),
     BucketRows(usize, usize, usize),
     Indexes(usize),
-    Names(NameList),
+    NamesOf(NameList),
     /// An element of the list.
     Listed(NameList, usize),
 }
@@ -117,7 +117,7 @@ impl Place {
             Place::Upto(t, c, b) => in_bucket(alloc, t, c, b, "/upto"),
             Place::BucketRows(t, c, b) => in_bucket(alloc, t, c, b, "/rows"),
             Place::Indexes(t) => in_table(alloc, t, "/indexes"),
-            Place::Names(list) => list.pointer(alloc),
+            Place::NamesOf(list) => list.pointer(alloc),
             Place::Listed(list, i) => list.element_pointer(alloc, i),
         }
     }

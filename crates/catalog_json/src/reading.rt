@@ -1,7 +1,7 @@
 //! The whole catalogue.
 ghost use Rattle.std.specs.Prelude.{◌≡◌, ◌≢◌, ◌↔◌, ◌<◌, length, Some, None, Err, IfOk, IfErr, option_map};
 ghost use Rattle.serde_json.specs.View.{view};
-ghost use Rattle.catalog_json.specs.Walk.{Gives, catalog_at, version_at};
+ghost use Rattle.catalog_json.specs.Walk.{Yields, catalog_at, version_at};
 ghost use Rattle.catalog_json.specs.Outcome.{CatalogReads, json_of, most_bytes, told_of};
 ghost use Rattle.query_core.specs.Catalog.{IsCatalog};
 
@@ -30,7 +30,7 @@ fn version_at(value: Option<&Value>) -> Result<CatalogVersion, Fault>
 
 #[tactic(auto, unfolding(crate::specs::Walk::catalog_at))]
 fn read_value(alloc: Global, value: Value) -> Result<Catalog, Fault>
-    ensures { Gives (catalog_at (view value)) result }
+    ensures { Yields (catalog_at (view value)) result }
 {
     let mut object = Object::of(value, Place::Whole)?;
     let version = version_at(object.get("version"))?;

@@ -3,13 +3,14 @@ ghost use Rattle.std.specs.Prelude.{◌≡◌, ◌≤◌, [], ◌∷◌, ◌++�
 ghost use Rattle.serde_json.specs.View.{view};
 ghost use Rattle.catalog_json.specs.Columns.{names_of};
 ghost use Rattle.catalog_json.specs.Object.{data_of};
-ghost use Rattle.catalog_json.specs.Walk.{Gives, each, index_at, indexes_at, lists_at, named_table_at, named_placing, placing_at, replicated_at, table_at, tables_at};
+ghost use Rattle.catalog_json.specs.Walk.{Yields, each, index_at, indexes_at, lists_at, named_table_at, named_placing};
+ghost use Rattle.catalog_json.specs.Walk.{placing_at, replicated_at, table_at, tables_at};
 
 use crate::column::{Columns, read_columns};
 use crate::fault::Fault;
 use crate::listed::read_places;
 use crate::member::{TRILLION, list_at, number_at, take_list};
-use crate::names::Names;
+use crate::names::TableNames;
 use crate::object::Object;
 use crate::place::{NameList, Place};
 use crate::version::CatalogVersion;
@@ -51,12 +52,12 @@ fn read_placing(
     value: Option<&Value>,
 ) -> Result<Placing, Fault>
     requires { length columns.now ≤ 1000 }
-    ensures { Gives
+    ensures { Yields
         (placing_at version t (names_of columns.now) (option_map (λ v. view v.now) value.entry)) result }
 {
     let list = NameList::Distribution(t);
     match value.and_then(Value::as_str) {
-        Some(text) => named_placing(version, Place::Names(list), text),
+        Some(text) => named_placing(version, Place::NamesOf(list), text),
         None => Ok(Placing::Hashed(read_places(alloc, list, columns, value)?)),
     }
 }
@@ -68,7 +69,7 @@ fn read_each_index(
     values: &[Value],
 ) -> Result<List<List<u32>>, Fault>
     requires { length columns.now ≤ 1000 }
-    ensures { Gives (each (index_at t (names_of columns.now)) [] (map view values.now)) result }
+    ensures { Yields (each (index_at t (names_of columns.now)) [] (map view values.now)) result }
 {
     let mut indexes = List::new(alloc);
     for value in values {
@@ -87,7 +88,7 @@ fn read_indexes(
     value: Option<&Value>,
 ) -> Result<List<List<u32>>, Fault>
     requires { length columns.now ≤ 1000 }
-    ensures { Gives
+    ensures { Yields
         (indexes_at t (names_of columns.now) (option_map (λ v. view v.now) value.entry)) result }
 {
     match value {
@@ -109,7 +110,7 @@ fn read_lists(
     object: &Object,
 ) -> Result<(Placing, List<List<u32>>), Fault>
     requires { length columns.now ≤ 1000 }
-    ensures { Gives (lists_at version t (names_of columns.now) (data_of object.now)) result }
+    ensures { Yields (lists_at version t (names_of columns.now) (data_of object.now)) result }
 {
     let placing = read_placing(alloc, version, t, columns, object.get("distribution"))?;
     let indexes = read_indexes(alloc, t, columns, object.get("indexes"))?;
@@ -125,7 +126,7 @@ fn read_named_table(
     name: Text,
     object: &mut Object,
 ) -> Result<TableInfo, Fault>
-    ensures read { Gives (named_table_at version t name (data_of object.old)) result }
+    ensures read { Yields (named_table_at version t name (data_of object.old)) result }
     ensures named { IfOk result (λ table. table.name ≡ name) }
 {
     let rows = number_at(object.get("rows"), 0, TRILLION, Place::Rows(t))?;
@@ -146,11 +147,11 @@ fn read_table(
     alloc: Global,
     version: CatalogVersion,
     before: &[TableInfo],
-    names: &mut Names,
+    names: &mut TableNames,
     value: Value,
 ) -> Result<TableInfo, Fault>
     requires { names.old ≡ map (λ t. t.name) before.now }
-    ensures read { Gives (table_at version before.now (view value)) result }
+    ensures read { Yields (table_at version before.now (view value)) result }
     ensures added { IfOk result (λ table. names.new ≡ names.old ++ table.name ∷ []) }
 {
     let t = before.len();
@@ -164,10 +165,10 @@ fn read_each_table(
     alloc: Global,
     version: CatalogVersion,
     values: Vec<Value>,
-    names: &mut Names,
+    names: &mut TableNames,
 ) -> Result<List<TableInfo>, Fault>
     requires { names.old ≡ [] }
-    ensures { Gives (each (table_at version) [] (map view values.items)) result }
+    ensures { Yields (each (table_at version) [] (map view values.items)) result }
 {
     let mut tables = List::of(Vec::with_capacity(alloc, values.len())?);
     for value in values {
@@ -183,9 +184,9 @@ pub fn read_tables(
     version: CatalogVersion,
     value: Option<Value>,
 ) -> Result<List<TableInfo>, Fault>
-    ensures { Gives (tables_at version (option_map view value)) result }
+    ensures { Yields (tables_at version (option_map view value)) result }
 {
     let values = take_list(value, 0, MOST_TABLES, Place::Tables)?;
-    let mut names = Names::with_capacity(alloc, values.len())?;
+    let mut names = TableNames::with_capacity(alloc, values.len())?;
     read_each_table(alloc, version, values, &mut names)
 }

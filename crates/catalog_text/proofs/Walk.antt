@@ -104,7 +104,7 @@ module _ (columns : List ColumnInfo) (each_column : All IsColumn columns)
       → places_at list (names_of columns) (Some (places_data columns ps)) ≡ Ok ps
   unfolding places_at
   places_read list ps h =
-      rw (list_read (λ place. string (name_at columns place)) 1 8 (places.Names list) ps h.counted)
+      rw (list_read (λ place. string (name_at columns place)) 1 8 (places.NamesOf list) ps h.counted)
       (each_read (listed_at list (names_of columns)) (λ place. string (name_at columns place)) ps (λ before p after e.
       listed_read list before p (known ps before p after e h.known)
       (new_number before p after (subst (λ (qs : List ℕ). all_differ (λ q r. r == q) qs ≡ true) e h.differ))))

@@ -1,3 +1,3 @@
-pub mod Adds
+pub mod AddsTokens
 pub mod Signed
 pub mod Text

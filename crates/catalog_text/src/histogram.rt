@@ -2,7 +2,7 @@
 ghost use Rattle.std.specs.Prelude.{[], ◌∷◌, ◌++◌, Ok, OnOk};
 ghost use Rattle.std.specs.List.{All, flat_map};
 ghost use Rattle.json.specs.Tree.{json_tokens};
-ghost use Rattle.catalog_text.specs.Adds.{Adds};
+ghost use Rattle.catalog_text.specs.AddsTokens.{AddsTokens};
 ghost use Rattle.catalog_text.specs.Signed.{EndFits, NumbersFit};
 ghost use Rattle.catalog_text.specs.Text.{bucket_json, histogram_json, list_json};
 
@@ -11,7 +11,7 @@ use query_core::{Bucket, Histogram};
 use std::alloc::AllocError;
 
 fn write_bucket(out: &mut Writer, bucket: &Bucket) -> Result<(), AllocError>
-    ensures added { OnOk result (Adds out.old out.new (json_tokens (bucket_json bucket.now))) }
+    ensures added { OnOk result (AddsTokens out.old out.new (json_tokens (bucket_json bucket.now))) }
     ensures fits { OnOk result (EndFits bucket.now) }
 {
     out.begin_object()?;
@@ -24,7 +24,7 @@ fn write_bucket(out: &mut Writer, bucket: &Bucket) -> Result<(), AllocError>
 
 fn write_each_bucket(out: &mut Writer, buckets: &[Bucket]) -> Result<(), AllocError>
     ensures added { OnOk result
-        (Adds out.old out.new (flat_map (λ b. json_tokens (bucket_json b)) buckets.now)) }
+        (AddsTokens out.old out.new (flat_map (λ b. json_tokens (bucket_json b)) buckets.now)) }
     ensures fit { OnOk result (All EndFits buckets.now) }
 {
     for bucket in buckets {
@@ -35,7 +35,7 @@ fn write_each_bucket(out: &mut Writer, buckets: &[Bucket]) -> Result<(), AllocEr
 
 fn write_buckets(out: &mut Writer, buckets: &[Bucket]) -> Result<(), AllocError>
     ensures added { OnOk result
-        (Adds out.old out.new (json_tokens (list_json bucket_json buckets.now))) }
+        (AddsTokens out.old out.new (json_tokens (list_json bucket_json buckets.now))) }
     ensures fit { OnOk result (All EndFits buckets.now) }
 {
     out.begin_array()?;
@@ -46,7 +46,7 @@ fn write_buckets(out: &mut Writer, buckets: &[Bucket]) -> Result<(), AllocError>
 /// Writes a histogram.
 pub fn write_histogram(out: &mut Writer, histogram: &Histogram) -> Result<(), AllocError>
     ensures added { OnOk result
-        (Adds out.old out.new (json_tokens (histogram_json histogram.now))) }
+        (AddsTokens out.old out.new (json_tokens (histogram_json histogram.now))) }
     ensures fit { OnOk result (NumbersFit histogram.now) }
 {
     out.begin_object()?;

@@ -5,12 +5,13 @@ ghost use Rattle.json.specs.Json.{string};
 ghost use Rattle.json.specs.Tree.{json_tokens, members_tokens};
 ghost use Rattle.query_core.specs.Catalog.{IsCatalog, IsColumnList, IsPlacing, IsTable};
 ghost use Rattle.catalog_json.specs.Outcome.{most_bytes, reading_of};
-ghost use Rattle.catalog_text.specs.Adds.{Adds};
+ghost use Rattle.catalog_text.specs.AddsTokens.{AddsTokens};
 ghost use Rattle.catalog_text.specs.Signed.{ColumnFits, HistogramFits, TableFits};
-ghost use Rattle.catalog_text.specs.Text.{can_say, catalog_json, catalog_text, column_json, histogram_member, indexes_member, list_json, name_at, places_json, placing_json, table_json};
+ghost use Rattle.catalog_text.specs.Text.{can_say, catalog_json, catalog_text, column_json, histogram_member};
+ghost use Rattle.catalog_text.specs.Text.{indexes_member, list_json, name_at, places_json, placing_json, table_json};
 
 use crate::histogram::write_histogram;
-use crate::version::number_of;
+use crate::version::number_of_version;
 use catalog_json::CatalogVersion;
 use json::Writer;
 use orca_base::List;
@@ -20,7 +21,7 @@ use std::alloc::{AllocError, Global};
 /// Ends the object of a column, after its histogram where it has one.
 fn end_column(out: &mut Writer, histogram: &Option<Histogram>) -> Result<(), AllocError>
     ensures added { OnOk result
-        (Adds out.old out.new (members_tokens (histogram_member histogram.now))) }
+        (AddsTokens out.old out.new (members_tokens (histogram_member histogram.now))) }
     ensures fit { OnOk result (HistogramFits histogram.now) }
 {
     match histogram {
@@ -34,7 +35,7 @@ fn end_column(out: &mut Writer, histogram: &Option<Histogram>) -> Result<(), All
 }
 
 fn write_column(out: &mut Writer, column: &ColumnInfo) -> Result<(), AllocError>
-    ensures added { OnOk result (Adds out.old out.new (json_tokens (column_json column.now))) }
+    ensures added { OnOk result (AddsTokens out.old out.new (json_tokens (column_json column.now))) }
     ensures fits { OnOk result (ColumnFits column.now) }
 {
     out.begin_object()?;
@@ -47,7 +48,7 @@ fn write_column(out: &mut Writer, column: &ColumnInfo) -> Result<(), AllocError>
 
 fn write_each_column(out: &mut Writer, columns: &[ColumnInfo]) -> Result<(), AllocError>
     ensures added { OnOk result
-        (Adds out.old out.new (flat_map (λ c. json_tokens (column_json c)) columns.now)) }
+        (AddsTokens out.old out.new (flat_map (λ c. json_tokens (column_json c)) columns.now)) }
     ensures fit { OnOk result (All ColumnFits columns.now) }
 {
     for column in columns {
@@ -58,7 +59,7 @@ fn write_each_column(out: &mut Writer, columns: &[ColumnInfo]) -> Result<(), All
 
 fn write_columns(out: &mut Writer, columns: &[ColumnInfo]) -> Result<(), AllocError>
     ensures added { OnOk result
-        (Adds out.old out.new (json_tokens (list_json column_json columns.now))) }
+        (AddsTokens out.old out.new (json_tokens (list_json column_json columns.now))) }
     ensures fit { OnOk result (All ColumnFits columns.now) }
 {
     out.begin_array()?;
@@ -79,7 +80,7 @@ fn write_each_place(
     places: &[u32],
 ) -> Result<(), AllocError>
     requires { IsTrue (list_all (λ p. nat_lt p (length columns.now)) places.now) }
-    ensures { OnOk result (Adds out.old out.new
+    ensures { OnOk result (AddsTokens out.old out.new
         (flat_map (λ p. json_tokens (string (name_at columns.now p))) places.now)) }
 {
     for place in places {
@@ -91,7 +92,7 @@ fn write_each_place(
 fn write_places(out: &mut Writer, columns: &[ColumnInfo], places: &[u32]) -> Result<(), AllocError>
     requires { IsColumnList (length columns.now) places.now }
     ensures { OnOk result
-        (Adds out.old out.new (json_tokens (places_json columns.now places.now))) }
+        (AddsTokens out.old out.new (json_tokens (places_json columns.now places.now))) }
 {
     out.begin_array()?;
     write_each_place(out, columns, places)?;
@@ -105,7 +106,7 @@ fn write_placing(
 ) -> Result<(), AllocError>
     requires { IsPlacing (length columns.now) placing.now }
     ensures { OnOk result
-        (Adds out.old out.new (json_tokens (placing_json columns.now placing.now))) }
+        (AddsTokens out.old out.new (json_tokens (placing_json columns.now placing.now))) }
 {
     match placing {
         Placing::Hashed(places) => write_places(out, columns, places.as_slice()),
@@ -120,7 +121,7 @@ fn write_each_index(
     indexes: &[List<u32>],
 ) -> Result<(), AllocError>
     requires { All (IsColumnList (length columns.now)) indexes.now }
-    ensures { OnOk result (Adds out.old out.new
+    ensures { OnOk result (AddsTokens out.old out.new
         (flat_map (λ index. json_tokens (places_json columns.now index)) indexes.now)) }
 {
     for index in indexes {
@@ -136,7 +137,7 @@ fn write_indexes(
 ) -> Result<(), AllocError>
     requires { All (IsColumnList (length columns.now)) indexes.now }
     ensures { OnOk result
-        (Adds out.old out.new (json_tokens (list_json (places_json columns.now) indexes.now))) }
+        (AddsTokens out.old out.new (json_tokens (list_json (places_json columns.now) indexes.now))) }
 {
     out.begin_array()?;
     write_each_index(out, columns, indexes)?;
@@ -151,7 +152,7 @@ fn end_table(
 ) -> Result<(), AllocError>
     requires { All (IsColumnList (length columns.now)) indexes.now }
     ensures { OnOk result
-        (Adds out.old out.new (members_tokens (indexes_member columns.now indexes.now))) }
+        (AddsTokens out.old out.new (members_tokens (indexes_member columns.now indexes.now))) }
 {
     if indexes.is_empty() {
         return out.end_object();
@@ -163,7 +164,7 @@ fn end_table(
 
 fn write_table(out: &mut Writer, table: &TableInfo) -> Result<(), AllocError>
     requires { IsTable table.now }
-    ensures added { OnOk result (Adds out.old out.new (json_tokens (table_json table.now))) }
+    ensures added { OnOk result (AddsTokens out.old out.new (json_tokens (table_json table.now))) }
     ensures fits { OnOk result (TableFits table.now) }
 {
     let columns = table.columns.as_slice();
@@ -182,7 +183,7 @@ fn write_table(out: &mut Writer, table: &TableInfo) -> Result<(), AllocError>
 fn write_each_table(out: &mut Writer, tables: &[TableInfo]) -> Result<(), AllocError>
     requires { All IsTable tables.now }
     ensures added { OnOk result
-        (Adds out.old out.new (flat_map (λ t. json_tokens (table_json t)) tables.now)) }
+        (AddsTokens out.old out.new (flat_map (λ t. json_tokens (table_json t)) tables.now)) }
     ensures fit { OnOk result (All TableFits tables.now) }
 {
     for table in tables {
@@ -194,7 +195,7 @@ fn write_each_table(out: &mut Writer, tables: &[TableInfo]) -> Result<(), AllocE
 fn write_tables(out: &mut Writer, tables: &[TableInfo]) -> Result<(), AllocError>
     requires { All IsTable tables.now }
     ensures added { OnOk result
-        (Adds out.old out.new (json_tokens (list_json table_json tables.now))) }
+        (AddsTokens out.old out.new (json_tokens (list_json table_json tables.now))) }
     ensures fit { OnOk result (All TableFits tables.now) }
 {
     out.begin_array()?;
@@ -209,12 +210,12 @@ fn write_value(
 ) -> Result<(), AllocError>
     requires { IsCatalog catalog.now }
     ensures added { OnOk result
-        (Adds out.old out.new (json_tokens (catalog_json version catalog.now))) }
+        (AddsTokens out.old out.new (json_tokens (catalog_json version catalog.now))) }
     ensures fits { OnOk result (All TableFits catalog.now.tables) }
 {
     out.begin_object()?;
     out.key("version")?;
-    out.u64(number_of(version))?;
+    out.u64(number_of_version(version))?;
     out.key("segments")?;
     out.u64(catalog.segments)?;
     out.key("tables")?;

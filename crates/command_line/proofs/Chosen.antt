@@ -10,7 +10,7 @@ use Rattle.command_line.specs.Options.{Setting, a_number, a_root, some_rules, al
 use Rattle.command_line.specs.Options.{Chooses}
 use Rattle.command_line.specs.Command.{Given, AreChosen}
 use Rattle.command_line.specs.Reading.{root_of, off_of, chosen_by, chosen}
-use Rattle.command_line.specs.declared.choices.Choices.{Choices}
+use Rattle.command_line.specs.declared.settings.Settings.{Settings}
 use Rattle.command_line.specs.declared.options.OptionName.{OptionName}
 use Rattle.command_line.specs.declared.options.OptionName.TheVariants as names
 use Rattle.command_line.proofs.WrittenNumbers.{number_read, number_spelled}
@@ -40,7 +40,7 @@ has_words names.Trace = tt
 has_words names.ByWorker = tt
 
 -- what is chosen is read
-chosen_read : (setting : Setting) (value : Option (List ℕ)) (before after : Choices) → HasWords setting
+chosen_read : (setting : Setting) (value : Option (List ℕ)) (before after : Settings) → HasWords setting
     → Chooses setting value before after → chosen_by setting value before ≡ Some after
 chosen_read (a_number low high set) value before after small (n, is, same) =
     let read : number_within low high (decimal n) ≡ Some n =
@@ -54,7 +54,8 @@ chosen_read (some_rules set) value before after small (off, is, same) =
 chosen_read (alone set) value before after small same = ap Some (sym same)
 
 -- a value that is read
-record IsRead {V : Type 0} (read : List ℕ → Option V) (set : V → Choices) (value : Option (List ℕ)) (after : Choices) :
+record IsRead {V : Type 0} (read : List ℕ → Option V) (set : V → Settings) (value : Option (List ℕ))
+    (after : Settings) :
     Type 0 where
   found : V
   word : List ℕ
@@ -62,7 +63,7 @@ record IsRead {V : Type 0} (read : List ℕ → Option V) (set : V → Choices) 
   is_read : read word ≡ Some found
   same : after ≡ set found
 
-read_parts : {V : Type 0} (read : List ℕ → Option V) (set : V → Choices) (value : Option (List ℕ)) (after : Choices)
+read_parts : {V : Type 0} (read : List ℕ → Option V) (set : V → Settings) (value : Option (List ℕ)) (after : Settings)
     → option_map set (option_and_then read value) ≡ Some after → IsRead read set value after
 read_parts read set None after is = cc
 read_parts {V} read set (Some word) after is = of_found (read word) refl is
@@ -75,7 +76,7 @@ read_parts {V} read set (Some word) after is = of_found (read word) refl is
         record { found = v; word = word; there = refl; is_read = was; same = sym same }
 
 -- what is read is chosen so
-read_chosen : (setting : Setting) (value : Option (List ℕ)) (before after : Choices)
+read_chosen : (setting : Setting) (value : Option (List ℕ)) (before after : Settings)
     → chosen_by setting value before ≡ Some after → Chooses setting value before after
 read_chosen (a_number low high set) value before after is =
     let parts = read_parts (number_within low high) (λ n. set n before) value after is in
@@ -96,7 +97,7 @@ none_chosen [] = refl
 none_chosen (one ∷ more) = none_chosen more
 
 -- what they choose is read
-pub all_chosen : (before : Choices) (some : List Given) (after : Choices) → AreChosen before some after
+pub all_chosen : (before : Settings) (some : List Given) (after : Settings) → AreChosen before some after
     → fold chosen (Some before) some ≡ Some after
 all_chosen before [] after same = ap Some (sym same)
 all_chosen before (one ∷ more) after (middle, chooses, rest) =
@@ -105,15 +106,15 @@ all_chosen before (one ∷ more) after (middle, chooses, rest) =
     ∙ all_chosen middle more after rest
 
 -- what is read is chosen so
-pub chosen_spelled : (before : Choices) (some : List Given) (after : Choices)
+pub chosen_spelled : (before : Settings) (some : List Given) (after : Settings)
     → fold chosen (Some before) some ≡ Some after → AreChosen before some after
 chosen_spelled before [] after is = let same : before ≡ after = cc in sym same
 chosen_spelled before (one ∷ more) after is =
     of_first (λ middle rest. chosen_spelled middle more after rest) (chosen_by (setting_of one.option) one.value before)
     refl is
   where
-    of_first : ((middle : Choices) → fold chosen (Some middle) more ≡ Some after → AreChosen middle more after)
-        → (c : Option Choices) → chosen_by (setting_of one.option) one.value before ≡ c
+    of_first : ((middle : Settings) → fold chosen (Some middle) more ≡ Some after → AreChosen middle more after)
+        → (c : Option Settings) → chosen_by (setting_of one.option) one.value before ≡ c
         → fold chosen c more ≡ Some after → AreChosen before (one ∷ more) after
     of_first others None was made = let none : fold chosen None more ≡ None = none_chosen more in cc
     of_first others (Some middle) was made =

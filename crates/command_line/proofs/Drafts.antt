@@ -10,10 +10,11 @@ use Rattle.std.proofs.Math.Bool.{and-false}
 use Rattle.std.proofs.lemmas.List.Folds.{list_all-append}
 use Rattle.query_core.specs.Differ.{numbers_differ}
 use Rattle.command_line.specs.Options.{setting_of, usual, takes_option}
-use Rattle.command_line.specs.Command.{AnyTask, Given, Piece, name, given, name_in, given_in, number_of}
+use Rattle.command_line.specs.Command.{AnyTask, Given, Piece, name, given, name_in, given_in, given_number}
 use Rattle.command_line.specs.Command.{may_be_given}
-use Rattle.command_line.specs.Reading.{chosen_by, chosen, choices_of, task_of, command_with, command_made, command_from}
-use Rattle.command_line.specs.declared.choices.Choices.{Choices}
+use Rattle.command_line.specs.Reading.{chosen_by, chosen, settings_of, task_of, command_with, command_made}
+use Rattle.command_line.specs.Reading.{command_from}
+use Rattle.command_line.specs.declared.settings.Settings.{Settings}
 use Rattle.command_line.specs.declared.options.TaskName.{TaskName}
 use Rattle.command_line.specs.declared.options.TaskName.TheVariants as tasks
 use Rattle.command_line.specs.Drafts.{IsDraft, names_read}
@@ -46,7 +47,7 @@ module _ {T : Type 0} (kind : Piece → Option T) (before : List Piece) (piece :
 
 -- what is chosen with one option more, and with others behind it
 chosen_more : (some more : List Given) (one : Given)
-    → choices_of (some ++ one ∷ more) ≡ fold chosen (chosen (choices_of some) one) more
+    → settings_of (some ++ one ∷ more) ≡ fold chosen (chosen (settings_of some) one) more
 chosen_more some more one = fold-append chosen (Some usual) some (one ∷ more)
 
 -- ---- one piece more
@@ -60,23 +61,23 @@ taken_with : (task : TaskName) (some more : List Given)
 taken_with task some more = list_all-append (λ one. takes_option task one.option) some more
 
 module _ (task : TaskName) (before : List Piece) (draft : Draft) (is : IsDraft task before draft) where
-  pub with_name : (word : List ℕ) (new : Draft) → new.task ≡ draft.task → new.choices ≡ draft.choices
+  pub with_name : (word : List ℕ) (new : Draft) → new.task ≡ draft.task → new.settings ≡ draft.settings
       → new.given ≡ draft.given → names_read new.names ≡ names_read draft.names ++ word ∷ []
       → IsDraft task (before ++ name word ∷ []) new
-  with_name word new same choices numbers more = record {
+  with_name word new same settings numbers more = record {
     task_is = same ∙ is.task_is;
     taken = ap (takes_all task) (kept given_in before (name word) refl) ∙ is.taken;
     names = gained name_in before (name word) word refl ∙ ap (λ ns. ns ++ word ∷ []) is.names ∙ sym more;
-    choices = ap choices_of (kept given_in before (name word) refl) ∙ is.choices ∙ ap Some (sym choices);
+    settings = ap settings_of (kept given_in before (name word) refl) ∙ is.settings ∙ ap Some (sym settings);
     given = rw (numbers, kept given_in before (name word) refl) is.given;
   }
 
   pub with_option : (one : Given) (new : Draft) → new.task ≡ draft.task
       → takes_option draft.task one.option ≡ true → names_read new.names ≡ names_read draft.names
-      → chosen_by (setting_of one.option) one.value draft.choices ≡ Some new.choices
-      → (Has draft.given (number_of one) → ⊥) → Adds draft.given (number_of one) new.given
+      → chosen_by (setting_of one.option) one.value draft.settings ≡ Some new.settings
+      → (Has draft.given (given_number one) → ⊥) → Adds draft.given (given_number one) new.given
       → IsDraft task (before ++ given one ∷ []) new
-  with_option one new same takes names choices fresh adds =
+  with_option one new same takes names settings fresh adds =
       let some = filter_map given_in before in
       let grown : filter_map given_in (before ++ given one ∷ []) ≡ some ++ one ∷ [] =
       gained given_in before (given one) one refl in
@@ -86,8 +87,8 @@ module _ (task : TaskName) (before : List Piece) (draft : Draft) (is : IsDraft t
         task_is = same ∙ is.task_is;
         taken = ap (takes_all task) grown ∙ taken_with task some (one ∷ []) ∙ rw (is.taken, taken) refl;
         names = kept name_in before (given one) refl ∙ is.names ∙ sym names;
-        choices = ap choices_of grown ∙ chosen_more some [] one ∙ ap (λ c. chosen c one) is.choices ∙ choices;
-        given = rw grown (more_bits number_of some one draft.given is.given new.given fresh adds);
+        settings = ap settings_of grown ∙ chosen_more some [] one ∙ ap (λ c. chosen c one) is.settings ∙ settings;
+        given = rw grown (more_bits given_number some one draft.given is.given new.given fresh adds);
       }
 
 -- ---- one piece too many
@@ -108,14 +109,14 @@ four_names tasks.Batch (a ∷ b ∷ c ∷ []) more word three = refl
 four_names task (a ∷ b ∷ c ∷ d ∷ names) more word three = absurd (omega (arith, three))
 
 -- where there is no task, or nothing is chosen, there is no command
-no_command : (b : Bool) (task : Option AnyTask) (choices : Option Choices) → command_with task choices ≡ None
-    → cond b (command_with task choices) None ≡ None
-no_command true task choices is = is
-no_command false task choices is = refl
+no_command : (b : Bool) (task : Option AnyTask) (settings : Option Settings) → command_with task settings ≡ None
+    → cond b (command_with task settings) None ≡ None
+no_command true task settings is = is
+no_command false task settings is = refl
 
-no_task : (choices : Option Choices) → command_with None choices ≡ None
+no_task : (settings : Option Settings) → command_with None settings ≡ None
 no_task None = refl
-no_task (Some choices) = refl
+no_task (Some settings) = refl
 
 -- where the options may not be given there is no command
 no_options : (task : TaskName) (names : List (List ℕ)) (some : List Given) → may_be_given task some ≡ false
@@ -130,20 +131,20 @@ module _ (task : TaskName) (before after : List Piece) (draft : Draft) (is : IsD
       let none : task_of task (filter_map name_in (before ++ name word ∷ after)) ≡ None =
       ap (task_of task) (inside name_in before (name word) word after refl)
       ∙ four_names task (filter_map name_in before) (filter_map name_in after) word (ap length is.names ∙ three) in
-      no_command (may_be_given task some) _ (choices_of some) (ap (λ t. command_with t (choices_of some)) none
-      ∙ no_task (choices_of some))
+      no_command (may_be_given task some) _ (settings_of some) (ap (λ t. command_with t (settings_of some)) none
+      ∙ no_task (settings_of some))
 
   -- the options with one more among them
   whole : (one : Given) → filter_map given_in (before ++ given one ∷ after) ≡ filter_map given_in
       before ++ one ∷ filter_map given_in after
   whole one = inside given_in before (given one) one after refl
 
-  pub given_again : (one : Given) → Has draft.given (number_of one)
+  pub given_again : (one : Given) → Has draft.given (given_number one)
       → command_from task (before ++ given one ∷ after) ≡ None
   given_again one has =
       let some = filter_map given_in before in
-      let again : numbers_differ (map number_of (filter_map given_in (before ++ given one ∷ after))) ≡ false =
-      rw (whole one) (comes_twice number_of some one draft.given is.given (filter_map given_in after) has) in
+      let again : numbers_differ (map given_number (filter_map given_in (before ++ given one ∷ after))) ≡ false =
+      rw (whole one) (comes_twice given_number some one draft.given is.given (filter_map given_in after) has) in
       no_options task (filter_map name_in (before ++ given one ∷ after))
       (filter_map given_in (before ++ given one ∷ after)) (rw again (and-false _))
 
@@ -160,22 +161,22 @@ module _ (task : TaskName) (before after : List Piece) (draft : Draft) (is : IsD
       (filter_map given_in (before ++ given one ∷ after)) (rw none refl)
 
   -- the word behind the option is no value of it
-  pub no_value : (one : Given) → chosen_by (setting_of one.option) one.value draft.choices ≡ None
+  pub no_value : (one : Given) → chosen_by (setting_of one.option) one.value draft.settings ≡ None
       → command_from task (before ++ given one ∷ after) ≡ None
   no_value one never =
       let some = filter_map given_in before in
       let all = filter_map given_in (before ++ given one ∷ after) in
       let names = filter_map name_in (before ++ given one ∷ after) in
-      let none : choices_of all ≡ None =
-      ap choices_of (whole one) ∙ chosen_more some (filter_map given_in after) one
-      ∙ ap (λ c. fold chosen c (filter_map given_in after)) (ap (λ c. chosen c one) is.choices ∙ never)
+      let none : settings_of all ≡ None =
+      ap settings_of (whole one) ∙ chosen_more some (filter_map given_in after) one
+      ∙ ap (λ c. fold chosen c (filter_map given_in after)) (ap (λ c. chosen c one) is.settings ∙ never)
       ∙ none_chosen (filter_map given_in after) in
-      no_command (may_be_given task all) (task_of task names) (choices_of all)
+      no_command (may_be_given task all) (task_of task names) (settings_of all)
       (ap (command_with (task_of task names)) none)
 
 -- the command of a draft
 pub all_read : (task : TaskName) (pieces : List Piece) (draft : Draft) → IsDraft task pieces draft
-    → command_from task pieces ≡ command_with (task_of task (names_read draft.names)) (Some draft.choices)
+    → command_from task pieces ≡ command_with (task_of task (names_read draft.names)) (Some draft.settings)
 all_read task pieces draft is =
     let once : may_be_given task (filter_map given_in pieces) ≡ true = rw (is.taken, is.given.once) refl in
-    rw (once, is.names) (ap (command_with (task_of task (names_read draft.names))) is.choices)
+    rw (once, is.names) (ap (command_with (task_of task (names_read draft.names))) is.settings)

@@ -11,7 +11,7 @@ use Rattle.command_line.specs.Options.{allows}
 use Rattle.command_line.specs.Reading.{of_two, of_three, plan_over, stages_over, check_over, dump_over, batch_over}
 use Rattle.command_line.specs.Reading.{shape_of, input_with, input_by, input_of, stages_of, task_of}
 use Rattle.command_line.specs.Reading.{command_where, command_with, task_named}
-use Rattle.command_line.specs.declared.choices.Choices.{Choices}
+use Rattle.command_line.specs.declared.settings.Settings.{Settings}
 use Rattle.command_line.specs.declared.options.TaskName.{TaskName}
 use Rattle.command_line.specs.declared.options.TaskName.TheVariants as tasks
 use Rattle.command_line.specs.declared.command.GenInput.{GenInput}
@@ -218,30 +218,30 @@ names_spelled tasks.Batch names task is =
 -- ---- commands
 
 -- what a command that was made has
-pub record IsMade (name : TaskName) (names : List (List ℕ)) (choices : Option Choices) (command : AnyCommand) : Type 0
+pub record IsMade (name : TaskName) (names : List (List ℕ)) (settings : Option Settings) (command : AnyCommand) : Type 0
   where
     pub named : name ≡ task_name command.task
     pub are_names : AreNames command.task names
-    pub chosen : choices ≡ Some command.choices
-    pub allowed : allows (task_name command.task) command.choices ≡ true
+    pub chosen : settings ≡ Some command.settings
+    pub allowed : allows (task_name command.task) command.settings ≡ true
 
-pub made_command : (name : TaskName) (names : List (List ℕ)) (choices : Option Choices) (command : AnyCommand)
-    → command_with (task_of name names) choices ≡ Some command → IsMade name names choices command
+pub made_command : (name : TaskName) (names : List (List ℕ)) (settings : Option Settings) (command : AnyCommand)
+    → command_with (task_of name names) settings ≡ Some command → IsMade name names settings command
 made_command name names None command is = cc
-made_command name names (Some choices) command is = of_task (task_of name names) refl is
+made_command name names (Some settings) command is = of_task (task_of name names) refl is
   where
-    of_allowed : (task : AnyTask) (may : Bool) → task_of name names ≡ Some task → allows (task_name task) choices ≡ may
-        → cond may (Some (record { task = task; choices = choices })) None ≡ Some command
-        → IsMade name names (Some choices) command
+    of_allowed : (task : AnyTask) (may : Bool) → task_of name names ≡ Some task → allows (task_name task) settings ≡ may
+        → cond may (Some (record { task = task; settings = settings })) None ≡ Some command
+        → IsMade name names (Some settings) command
     of_allowed task false read may made = cc
     of_allowed task true read may made =
-        let same : record { task = task; choices = choices } ≡ command = cc in
+        let same : record { task = task; settings = settings } ≡ command = cc in
         let has = names_spelled name names task read in
-        subst (IsMade name names (Some choices)) same
+        subst (IsMade name names (Some settings)) same
         (record { named = has.named; are_names = has.are_names; chosen = refl; allowed = may })
 
     of_task : (task : Option AnyTask) → task_of name names ≡ task
-        → option_and_then (λ t. command_where t choices) task ≡ Some command
-        → IsMade name names (Some choices) command
+        → option_and_then (λ t. command_where t settings) task ≡ Some command
+        → IsMade name names (Some settings) command
     of_task None read made = cc
-    of_task (Some task) read made = of_allowed task (allows (task_name task) choices) read refl made
+    of_task (Some task) read made = of_allowed task (allows (task_name task) settings) read refl made

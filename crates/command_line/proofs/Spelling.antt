@@ -6,7 +6,7 @@ use Rattle.std.specs.Option.{option_and_then}
 use Rattle.command_line.specs.Options.{usual}
 use Rattle.command_line.specs.Command.{AnyCommand, task_name, task_word, Piece}
 use Rattle.command_line.specs.Command.{name_in, given_in, may_be_given, IsSpelledOut}
-use Rattle.command_line.specs.Reading.{choices_of, pieces_of, command_from, command_with, task_of}
+use Rattle.command_line.specs.Reading.{settings_of, pieces_of, command_from, command_with, task_of}
 use Rattle.command_line.specs.Reading.{behind_name, task_named, command_of}
 use Rattle.command_line.specs.declared.options.TaskName.{TaskName}
 use Rattle.command_line.proofs.Chosen.{all_chosen, chosen_spelled}
@@ -24,7 +24,7 @@ spelled_read words command is =
     ∙ rw (
       is.once,
       names_read command.task (filter_map name_in is.pieces) is.names,
-      all_chosen usual (filter_map given_in is.pieces) command.choices is.chosen,
+      all_chosen usual (filter_map given_in is.pieces) command.settings is.chosen,
       is.allowed,
     ) refl
 
@@ -36,11 +36,11 @@ read_spelled (first ∷ others) command is = of_name_read (task_named first) ref
   where
     of_given : (task : TaskName) (pieces : List Piece) (g : Bool) → task_named first ≡ Some task
         → pieces_of others ≡ Some pieces → may_be_given task (filter_map given_in pieces) ≡ g
-        → cond g (command_with (task_of task (filter_map name_in pieces)) (choices_of (filter_map given_in pieces)))
+        → cond g (command_with (task_of task (filter_map name_in pieces)) (settings_of (filter_map given_in pieces)))
         None ≡ Some command → IsSpelledOut (first ∷ others) command
     of_given task pieces false spelt read once made = cc
     of_given task pieces true spelt read once made =
-        let parts = made_command task (filter_map name_in pieces) (choices_of (filter_map given_in pieces)) command
+        let parts = made_command task (filter_map name_in pieces) (settings_of (filter_map given_in pieces)) command
         made in
         record {
           pieces = pieces;
@@ -49,7 +49,7 @@ read_spelled (first ∷ others) command is = of_name_read (task_named first) ref
           spelled = pieces_spelled others pieces read;
           once = subst (λ n. may_be_given n (filter_map given_in pieces) ≡ true) parts.named once;
           names = parts.are_names;
-          chosen = chosen_spelled usual (filter_map given_in pieces) command.choices parts.chosen;
+          chosen = chosen_spelled usual (filter_map given_in pieces) command.settings parts.chosen;
           allowed = parts.allowed;
         }
 

@@ -7,7 +7,7 @@ use Rattle.command_line.specs.Options.{option_word, option_number, setting_of, t
 use Rattle.command_line.specs.Options.{usual, Chooses}
 use Rattle.command_line.specs.Numbers.{IsWithin}
 use Rattle.command_line.specs.Stages.{AnyStage, IsStagesWord}
-use Rattle.command_line.specs.declared.choices.Choices.{Choices}
+use Rattle.command_line.specs.declared.settings.Settings.{Settings}
 use Rattle.command_line.specs.declared.options.TaskName.{TaskName}
 use Rattle.command_line.specs.declared.options.TaskName.TheVariants as tasks
 use Rattle.command_line.specs.declared.options.OptionName.{OptionName}
@@ -50,7 +50,7 @@ pub data AnyTask : Type 0 where
 -- a command: a task, and what is chosen for it by options
 pub record AnyCommand : Type 0 where
   pub task : AnyTask
-  pub choices : Choices
+  pub settings : Settings
 
 -- the name of a task
 abbrev pub task_name : AnyTask → TaskName
@@ -144,19 +144,19 @@ AreNames (dump files) names = names ≡ files.catalog ∷ files.query ∷ []
 AreNames (replay file) names = names ≡ file ∷ []
 AreNames (batch files) names = names ≡ files.catalog ∷ files.list ∷ []
 
--- the options that are given take the choices before to those after, one behind the other
-abbrev pub AreChosen : Choices → List Given → Choices → Type 0
+-- the options that are given take the settings before to those after, one behind the other
+abbrev pub AreChosen : Settings → List Given → Settings → Type 0
 AreChosen before [] after = after ≡ before
 AreChosen before (one ∷ more) after =
-    (middle : Choices) × Chooses (setting_of one.option) one.value before middle × AreChosen middle more after
+    (middle : Settings) × Chooses (setting_of one.option) one.value before middle × AreChosen middle more after
 
 -- the number of the option that is given
-abbrev pub number_of : Given → ℕ
-number_of one = option_number one.option
+abbrev pub given_number : Given → ℕ
+given_number one = option_number one.option
 
 -- the task takes each option, and none is given twice
 abbrev pub may_be_given : TaskName → List Given → Bool
-may_be_given task some = list_all (λ one. takes_option task one.option) some && numbers_differ (map number_of some)
+may_be_given task some = list_all (λ one. takes_option task one.option) some && numbers_differ (map given_number some)
 
 -- the words are this command: its task's word, and behind it its names and its options, each at most once, in whatever
 -- order
@@ -167,5 +167,5 @@ pub record IsSpelledOut (words : List (List ℕ)) (command : AnyCommand) : Type 
   pub spelled : AreSpelled pieces behind
   pub once : IsTrue (may_be_given (task_name command.task) (filter_map given_in pieces))
   pub names : AreNames command.task (filter_map name_in pieces)
-  pub chosen : AreChosen usual (filter_map given_in pieces) command.choices
-  pub allowed : IsTrue (allows (task_name command.task) command.choices)
+  pub chosen : AreChosen usual (filter_map given_in pieces) command.settings
+  pub allowed : IsTrue (allows (task_name command.task) command.settings)

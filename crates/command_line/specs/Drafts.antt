@@ -7,12 +7,12 @@ use Rattle.xform_rules.specs.Rules.{can_be_off, rule_number}
 use Rattle.xform_rules.specs.declared.rules.Rule.{Rule}
 use Rattle.command_line.specs.Rules.{off_set}
 use Rattle.command_line.specs.Options.{takes_option}
-use Rattle.command_line.specs.Command.{Piece, name_in, given_in, number_of}
-use Rattle.command_line.specs.Reading.{choices_of}
+use Rattle.command_line.specs.Command.{Piece, name_in, given_in, given_number}
+use Rattle.command_line.specs.Reading.{settings_of}
 use Rattle.command_line.specs.declared.options.TaskName.{TaskName}
 use Rattle.command_line.specs.declared.draft.Draft.{Draft}
-use Rattle.command_line.specs.declared.draft.Names.{Names}
-use Rattle.command_line.specs.declared.draft.Names.TheVariants.{Nothing, One, Two, Three}
+use Rattle.command_line.specs.declared.draft.TaskNames.{TaskNames}
+use Rattle.command_line.specs.declared.draft.TaskNames.TheVariants.{Nothing, One, Two, Three}
 
 -- the set has the bits of these numbers, of which none comes twice
 pub record AreBits (numbers : List ℕ) (bits : ℕ) : Type 0 where
@@ -26,7 +26,7 @@ pub record IsOffSet (some : List Rule) (bits : ℕ) : Type 0 where
   pub can : list_all can_be_off some ≡ true
 
 -- the names that were read
-abbrev pub names_read : Names → List (List ℕ)
+abbrev pub names_read : TaskNames → List (List ℕ)
 names_read Nothing = []
 names_read (One first) = first.now ∷ []
 names_read (Two first second) = first.now ∷ second.now ∷ []
@@ -37,5 +37,5 @@ pub record IsDraft (task : TaskName) (pieces : List Piece) (draft : Draft) : Typ
   pub task_is : draft.task ≡ task
   pub taken : list_all (λ one. takes_option task one.option) (filter_map given_in pieces) ≡ true
   pub names : filter_map name_in pieces ≡ names_read draft.names
-  pub choices : choices_of (filter_map given_in pieces) ≡ Some draft.choices
-  pub given : AreBits (map number_of (filter_map given_in pieces)) draft.given
+  pub settings : settings_of (filter_map given_in pieces) ≡ Some draft.settings
+  pub given : AreBits (map given_number (filter_map given_in pieces)) draft.given

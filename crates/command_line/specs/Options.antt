@@ -8,7 +8,7 @@ use Rattle.query_core.specs.Results.{AreOptions}
 use Rattle.xform_rules.specs.declared.rules.Rule.{Rule}
 use Rattle.command_line.specs.Numbers.{IsWithin, IsNumber}
 use Rattle.command_line.specs.Rules.{may_be_off, off_set, rules_word}
-use Rattle.command_line.specs.declared.choices.Choices.{Choices}
+use Rattle.command_line.specs.declared.settings.Settings.{Settings}
 use Rattle.command_line.specs.declared.options.TaskName.{TaskName}
 use Rattle.command_line.specs.declared.options.TaskName.TheVariants as tasks
 use Rattle.command_line.specs.declared.options.OptionName.{OptionName}
@@ -29,10 +29,10 @@ option_word names.ByWorker = codes "--by-worker"
 -- what stands behind an option's word, and what is chosen by it: a number within bounds, a distribution of the root,
 -- rules that are off, or nothing
 pub data Setting : Type 0 where
-  a_number : (low high : ℕ) → (ℕ → Choices → Choices) → Setting
-  a_root : (RootDist → Choices → Choices) → Setting
-  some_rules : (ℕ → Choices → Choices) → Setting
-  alone : (Choices → Choices) → Setting
+  a_number : (low high : ℕ) → (ℕ → Settings → Settings) → Setting
+  a_root : (RootDist → Settings → Settings) → Setting
+  some_rules : (ℕ → Settings → Settings) → Setting
+  alone : (Settings → Settings) → Setting
 
 -- that of each option
 abbrev pub setting_of : OptionName → Setting
@@ -62,14 +62,14 @@ options_of tasks.Batch =
 
 -- the task allows what is chosen for it: in a batch each worker has a board of its own, and all boards together have at
 -- most 8388608 cells
-abbrev pub allows : TaskName → Choices → Bool
-allows tasks.Plan choices = true
-allows tasks.Gen choices = true
-allows tasks.Stages choices = true
-allows tasks.Check choices = true
-allows tasks.Dump choices = true
-allows tasks.Replay choices = true
-allows tasks.Batch choices = nat_le (choices.workers * choices.capacity) 8388608
+abbrev pub allows : TaskName → Settings → Bool
+allows tasks.Plan settings = true
+allows tasks.Gen settings = true
+allows tasks.Stages settings = true
+allows tasks.Check settings = true
+allows tasks.Dump settings = true
+allows tasks.Replay settings = true
+allows tasks.Batch settings = nat_le (settings.workers * settings.capacity) 8388608
 
 -- ---- what follows from the tables
 
@@ -110,8 +110,8 @@ abbrev pub value_words : Option (List ℕ) → List (List ℕ)
 value_words None = []
 value_words (Some word) = word ∷ []
 
--- with this value behind it the option takes the choices before to those after
-abbrev pub Chooses : Setting → Option (List ℕ) → Choices → Choices → Type 0
+-- with this value behind it the option takes the settings before to those after
+abbrev pub Chooses : Setting → Option (List ℕ) → Settings → Settings → Type 0
 Chooses (a_number low high set) value before after =
     (n : ℕ) × IsNumber low high n (value_words value) × (after ≡ set n before)
 Chooses (a_root set) value before after =
@@ -122,7 +122,7 @@ Chooses (alone set) value before after = after ≡ set before
 -- ---- what a command chooses
 
 -- one worker, room for 131072 members and goals, the result at one place, no rule off, and nothing behind the plan
-abbrev pub usual : Choices
+abbrev pub usual : Settings
 usual = record {
   workers = 1;
   capacity = 131072;
@@ -133,7 +133,7 @@ usual = record {
 }
 
 -- the numbers lie within their bounds, and the rules may be off
-pub record AreChoices (c : Choices) : Type 0 where
+pub record AreSettings (c : Settings) : Type 0 where
   pub workers : IsWithin 1 64 c.workers
   pub capacity : IsWithin 64 1048576 c.capacity
   pub options : AreOptions c.options

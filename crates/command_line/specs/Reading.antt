@@ -15,7 +15,7 @@ use Rattle.command_line.specs.Stages.{AnyStage}
 use Rattle.command_line.specs.Command.{AnyTask, AnyCommand, plan, gen, stages, check, dump, replay, batch, task_name}
 use Rattle.command_line.specs.Command.{Given, Piece, name, given}
 use Rattle.command_line.specs.Command.{is_positional, name_in, given_in, may_be_given}
-use Rattle.command_line.specs.declared.choices.Choices.{Choices}
+use Rattle.command_line.specs.declared.settings.Settings.{Settings}
 use Rattle.command_line.specs.declared.options.TaskName.{TaskName}
 use Rattle.command_line.specs.declared.options.TaskName.TheVariants as tasks
 use Rattle.command_line.specs.declared.options.OptionName.{OptionName}
@@ -89,20 +89,20 @@ stages_of word = joined_by 44 stage_of few word
 abbrev pub option_named : List ℕ → Option OptionName
 option_named word = find (λ option. bytes_eq word (option_word option)) all_options
 
--- the choices with the value behind the option, where it is one of its values
-abbrev pub chosen_by : Setting → Option (List ℕ) → Choices → Option Choices
+-- the settings with the value behind the option, where it is one of its values
+abbrev pub chosen_by : Setting → Option (List ℕ) → Settings → Option Settings
 chosen_by (a_number low high set) value c = option_map (λ n. set n c) (option_and_then (number_within low high) value)
 chosen_by (a_root set) value c = option_map (λ dist. set dist c) (option_and_then root_of value)
 chosen_by (some_rules set) value c = option_map (λ off. set off c) (option_and_then off_of value)
 chosen_by (alone set) value c = Some (set c)
 
--- the choices with one option more
-abbrev pub chosen : Option Choices → Given → Option Choices
+-- the settings with one option more
+abbrev pub chosen : Option Settings → Given → Option Settings
 chosen before one = option_and_then (chosen_by (setting_of one.option) one.value) before
 
 -- what the options that are given choose, and what is usual for the rest
-abbrev pub choices_of : List Given → Option Choices
-choices_of some = fold chosen (Some usual) some
+abbrev pub settings_of : List Given → Option Settings
+settings_of some = fold chosen (Some usual) some
 
 -- ---- pieces
 
@@ -214,17 +214,17 @@ task_of tasks.Replay names = of_one replay names
 task_of tasks.Batch names = of_two batch_over names
 
 -- the command of a task and of what is chosen, where the task allows that
-abbrev pub command_where : AnyTask → Choices → Option AnyCommand
-command_where task choices =
-    if allows (task_name task) choices then Some (record { task = task; choices = choices }) else None
+abbrev pub command_where : AnyTask → Settings → Option AnyCommand
+command_where task settings =
+    if allows (task_name task) settings then Some (record { task = task; settings = settings }) else None
 
 -- the same where there is a task, and something is chosen
-abbrev pub command_with : Option AnyTask → Option Choices → Option AnyCommand
-command_with task choices = option_and_then (λ c. option_and_then (λ t. command_where t c) task) choices
+abbrev pub command_with : Option AnyTask → Option Settings → Option AnyCommand
+command_with task settings = option_and_then (λ c. option_and_then (λ t. command_where t c) task) settings
 
 -- the command of these names and of these options
 abbrev pub command_made : TaskName → List (List ℕ) → List Given → Option AnyCommand
-command_made task names some = if may_be_given task some then command_with (task_of task names) (choices_of some) else
+command_made task names some = if may_be_given task some then command_with (task_of task names) (settings_of some) else
     None
 
 -- the command that the pieces make behind the task's word

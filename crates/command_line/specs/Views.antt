@@ -43,7 +43,7 @@ task_read (tasks.Batch files) = batch (list_names files)
 
 -- what a command asks for
 abbrev pub command_read : Command → AnyCommand
-command_read command = record { task = task_read command.task; choices = command.choices }
+command_read command = record { task = task_read command.task; settings = command.settings }
 
 -- the piece of an option and of what stands behind it
 abbrev pub option_given : OptionName → Option (Bor (List ℕ)) → Piece

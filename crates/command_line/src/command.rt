@@ -1,9 +1,9 @@
 //! What the words of a command line ask for.
 ghost use Rattle.std.proofs.Props.{props};
 ghost use Rattle.command_line.specs.Numbers.{IsWithin};
-ghost use Rattle.command_line.specs.Options.{AreChoices};
+ghost use Rattle.command_line.specs.Options.{AreSettings};
 
-use crate::choices::Choices;
+use crate::settings::Settings;
 use crate::stages::Stages;
 use query_generator::GenShape;
 
@@ -76,6 +76,6 @@ pub enum Task<'w> {
 #[derive(Clone, Copy)]
 pub struct Command<'w> {
     pub task: Task<'w>,
-    pub choices: Choices,
-    pub ghost choices_valid: { AreChoices choices } by { Prim.hlevel props },
+    pub settings: Settings,
+    pub ghost settings_valid: { AreSettings settings } by { Prim.hlevel props },
 }

@@ -1,13 +1,13 @@
 //! A command whose words are being read.
 ghost use Rattle.std.proofs.Props.{props};
-ghost use Rattle.command_line.specs.Options.{AreChoices};
+ghost use Rattle.command_line.specs.Options.{AreSettings};
 
-use crate::choices::Choices;
 use crate::options::TaskName;
+use crate::settings::Settings;
 
 /// The names that were read.
 #[derive(Clone, Copy)]
-pub enum Names<'w> {
+pub enum TaskNames<'w> {
     Nothing,
     One(&'w str),
     Two(&'w str, &'w str),
@@ -18,9 +18,9 @@ pub enum Names<'w> {
 #[derive(Clone, Copy)]
 pub struct Draft<'w> {
     pub task: TaskName,
-    pub names: Names<'w>,
-    pub choices: Choices,
+    pub names: TaskNames<'w>,
+    pub settings: Settings,
     /// The bits of the numbers of the options that were given.
     pub given: u32,
-    pub ghost choices_valid: { AreChoices choices } by { Prim.hlevel props },
+    pub ghost settings_valid: { AreSettings settings } by { Prim.hlevel props },
 }

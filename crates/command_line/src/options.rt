@@ -1,8 +1,9 @@
 //! The tasks, the options, and which task takes which.
 ghost use Rattle.std.specs.Prelude.{◌≡◌, ◌<◌};
-ghost use Rattle.command_line.specs.Options.{allows as are_allowed, option_number, options_of, takes_option, takes_value as takes};
+ghost use Rattle.command_line.specs.Options.{allows as the_allows, option_number, options_of, takes_option};
+ghost use Rattle.command_line.specs.Options.{takes_value as the_takes_value};
 
-use crate::choices::Choices;
+use crate::settings::Settings;
 
 /// The most cells that the boards of all workers of a batch may have together.
 const BATCH_CELLS: u64 = 8_388_608;
@@ -81,8 +82,8 @@ impl TaskName {
     }
 
     /// Whether it allows what is chosen for it.
-    pub fn allows(self, choices: Choices) -> bool
-        ensures { result ≡ are_allowed self choices }
+    pub fn allows(self, settings: Settings) -> bool
+        ensures { result ≡ the_allows self settings }
     {
         match self {
             TaskName::Plan
@@ -92,7 +93,7 @@ impl TaskName {
             | TaskName::Dump
             | TaskName::Replay => true,
             TaskName::Batch => {
-                u64::from(choices.workers) * u64::from(choices.capacity) <= BATCH_CELLS
+                u64::from(settings.workers) * u64::from(settings.capacity) <= BATCH_CELLS
             }
         }
     }
@@ -109,7 +110,7 @@ impl OptionName {
 
     /// Whether a value stands behind it.
     pub fn takes_value(self) -> bool
-        ensures { result ≡ takes self }
+        ensures { result ≡ the_takes_value self }
     {
         !matches!(
             self,

@@ -2,7 +2,7 @@
 ghost use Rattle.std.specs.Prelude.{◌≡◌, option_map, string_bytes, IfSome, Some};
 ghost use Rattle.command_line.specs.Command.{is_positional};
 ghost use Rattle.command_line.specs.Options.{option_word};
-ghost use Rattle.command_line.specs.declared.options.OptionName.{OptionName as AnyOption};
+ghost use Rattle.command_line.specs.declared.options.OptionName.{OptionName as AnyOptionName};
 ghost use Rattle.command_line.specs.Reading.{is_valued, option_named, piece_of, valued_piece};
 ghost use Rattle.command_line.specs.Views.{piece};
 
@@ -61,7 +61,7 @@ fn option_of(word: &str) -> Option<OptionName>
 
 fn spelled(word: &str) -> Option<OptionName>
     ensures found { IfSome result (λ option. option_word option ≡ word.now) }
-    ensures only { (option : AnyOption) → option_word option ≡ word.now → result ≡ Some option }
+    ensures only { (option : AnyOptionName) → option_word option ≡ word.now → result ≡ Some option }
 {
     match word {
         "--workers" => Some(OptionName::Workers),

@@ -4,31 +4,31 @@ ghost use Rattle.command_line.specs.Command.{task_name};
 ghost use Rattle.command_line.specs.Drafts.{names_read};
 ghost use Rattle.command_line.specs.Reading.{task_of};
 ghost use Rattle.command_line.specs.Views.{task_read};
-ghost use Rattle.command_line.specs.declared.options.TaskName.{TaskName as AnyName};
+ghost use Rattle.command_line.specs.declared.options.TaskName.{TaskName as AnyTaskName};
 
 use crate::command::{Files, GenTask, ListFiles, PlanFiles, StageFiles, Task};
-use crate::draft::Names;
+use crate::draft::TaskNames;
 use crate::inputs::read_input;
 use crate::options::TaskName;
 use crate::stage_words::read_stages;
 
-impl<'w> Names<'w> {
+impl<'w> TaskNames<'w> {
     /// What `plan` does with them.
     pub fn planned(self) -> Option<Task<'w>>
-        ensures { option_map task_read result ≡ task_of AnyName.Plan (names_read self.entry) }
+        ensures { option_map task_read result ≡ task_of AnyTaskName.Plan (names_read self.entry) }
     {
         match self {
-            Names::Two(catalog, query) => Some(Task::Plan(Files { catalog, query })),
+            TaskNames::Two(catalog, query) => Some(Task::Plan(Files { catalog, query })),
             _ => None,
         }
     }
 
     /// What `gen` does with them.
     pub fn generated(self) -> Option<Task<'w>>
-        ensures { option_map task_read result ≡ task_of AnyName.Gen (names_read self.entry) }
+        ensures { option_map task_read result ≡ task_of AnyTaskName.Gen (names_read self.entry) }
     {
         match self {
-            Names::Three(number, tables, shape) => Some(Task::Gen(GenTask {
+            TaskNames::Three(number, tables, shape) => Some(Task::Gen(GenTask {
                 input: read_input(number, tables, shape)?,
             })),
             _ => None,
@@ -37,10 +37,10 @@ impl<'w> Names<'w> {
 
     /// What `stages` does with them.
     pub fn staged(self) -> Option<Task<'w>>
-        ensures { option_map task_read result ≡ task_of AnyName.Stages (names_read self.entry) }
+        ensures { option_map task_read result ≡ task_of AnyTaskName.Stages (names_read self.entry) }
     {
         match self {
-            Names::Three(catalog, query, word) => Some(Task::Stages(StageFiles {
+            TaskNames::Three(catalog, query, word) => Some(Task::Stages(StageFiles {
                 files: Files { catalog, query },
                 stages: read_stages(word)?,
             })),
@@ -50,10 +50,10 @@ impl<'w> Names<'w> {
 
     /// What `check` does with them.
     pub fn checked(self) -> Option<Task<'w>>
-        ensures { option_map task_read result ≡ task_of AnyName.Check (names_read self.entry) }
+        ensures { option_map task_read result ≡ task_of AnyTaskName.Check (names_read self.entry) }
     {
         match self {
-            Names::Three(catalog, query, plan) => Some(Task::Check(PlanFiles {
+            TaskNames::Three(catalog, query, plan) => Some(Task::Check(PlanFiles {
                 files: Files { catalog, query },
                 plan,
             })),
@@ -63,30 +63,30 @@ impl<'w> Names<'w> {
 
     /// What `dump` does with them.
     pub fn dumped(self) -> Option<Task<'w>>
-        ensures { option_map task_read result ≡ task_of AnyName.Dump (names_read self.entry) }
+        ensures { option_map task_read result ≡ task_of AnyTaskName.Dump (names_read self.entry) }
     {
         match self {
-            Names::Two(catalog, query) => Some(Task::Dump(Files { catalog, query })),
+            TaskNames::Two(catalog, query) => Some(Task::Dump(Files { catalog, query })),
             _ => None,
         }
     }
 
     /// What `replay` does with them.
     pub fn replayed(self) -> Option<Task<'w>>
-        ensures { option_map task_read result ≡ task_of AnyName.Replay (names_read self.entry) }
+        ensures { option_map task_read result ≡ task_of AnyTaskName.Replay (names_read self.entry) }
     {
         match self {
-            Names::One(dump) => Some(Task::Replay(dump)),
+            TaskNames::One(dump) => Some(Task::Replay(dump)),
             _ => None,
         }
     }
 
     /// What `batch` does with them.
     pub fn listed(self) -> Option<Task<'w>>
-        ensures { option_map task_read result ≡ task_of AnyName.Batch (names_read self.entry) }
+        ensures { option_map task_read result ≡ task_of AnyTaskName.Batch (names_read self.entry) }
     {
         match self {
-            Names::Two(catalog, list) => Some(Task::Batch(ListFiles { catalog, list })),
+            TaskNames::Two(catalog, list) => Some(Task::Batch(ListFiles { catalog, list })),
             _ => None,
         }
     }

@@ -5,7 +5,7 @@ ghost use Rattle.command_line.specs.Command.{Piece};
 ghost use Rattle.command_line.specs.Reading.{command_from, task_named, command_of, pieces_of};
 ghost use Rattle.command_line.specs.Drafts.{IsDraft};
 ghost use Rattle.command_line.specs.Views.{command_read};
-ghost use Rattle.command_line.specs.declared.options.TaskName.{TaskName as AnyName};
+ghost use Rattle.command_line.specs.declared.options.TaskName.{TaskName as AnyTaskName};
 
 use crate::command::Command;
 use crate::draft::Draft;
@@ -39,7 +39,7 @@ fn read_task(word: &str) -> Option<TaskName>
 
 // The command of what was read and of the words behind it.
 fn read_behind<'w>(words: &'w [String], draft: Draft<'w>) -> Option<Command<'w>>
-    ensures { (task : AnyName) (before : List Piece) → IsDraft task before draft.entry
+    ensures { (task : AnyTaskName) (before : List Piece) → IsDraft task before draft.entry
         → option_map command_read result
         ≡ option_and_then (λ after. command_from task (before ++ after))
         (pieces_of (map string_bytes words.now)) }

@@ -3,8 +3,8 @@
 
 ghost use Rattle.std.specs.Prelude.{ℕ, ◌≡◌, ◌≤◌, ◌<◌, ◌^◌};
 ghost use Rattle.cost_units.specs.declared.shape.CostShape.{CostShape};
-ghost use Rattle.cost_units.specs.Cost.{IsBounded, HasDigits, bits, most_cost, work as work_of};
-ghost use Rattle.cost_units.specs.Cost.{local_cost, share as share_of};
+ghost use Rattle.cost_units.specs.Cost.{IsBounded, HasDigits, bits, most_cost, work as the_work};
+ghost use Rattle.cost_units.specs.Cost.{local_cost, share as the_share};
 
 use crate::shape::{Class, CostShape};
 
@@ -14,7 +14,7 @@ const MOST_COST: u64 = 1_000_000_000_000_000;
 /// How many of the rows the busiest segment has.
 pub fn share(n: u64, class: Class, segments: u64) -> u64
     requires { 1 ≤ segments }
-    ensures value { result ≡ share_of n class segments }
+    ensures value { result ≡ the_share n class segments }
     ensures most { result ≤ n }
 {
     match class {
@@ -43,7 +43,7 @@ pub fn bits_are_digits()
 // The rows that a node handles.
 fn work(shape: CostShape) -> u128
     requires { IsBounded shape }
-    ensures value { result ≡ work_of shape }
+    ensures value { result ≡ the_work shape }
     ensures most { result ≤ 10 ^ 24 }
 {
     match shape {

@@ -1,12 +1,12 @@
 -- What a text begins with is one thing.
 use Rattle.std.proofs.Common.{◌≡◌, ℕ, suc, zero, List, [], ◌∷◌, ◌++◌, take, slice_get, Some, refl, sym, ap, subst, ◌∙◌}
 use Rattle.std.proofs.lemmas.List.{append_cancel_right}
-use Rattle.dump_replay.specs.Lines.{DumpLine, BeginsWith, version, capacity, root, off, print, catalog, query}
+use Rattle.dump_replay.specs.Lines.{DumpLine, BeginsWithLine, version, capacity, root, off, print, catalog, query}
 use Rattle.dump_replay.specs.Dumps.{AreFirst, IsFirstLacking}
 use Rattle.dump_replay.proofs.Cuts.{one_cut}
 
 -- a text begins with one line of a kind
-one_begin : (line : DumpLine) (text a r b s : List ℕ) → BeginsWith line text a r → BeginsWith line text b s
+one_begin : (line : DumpLine) (text a r b s : List ℕ) → BeginsWithLine line text a r → BeginsWithLine line text b s
     → (a ≡ b) × (r ≡ s)
 one_begin version text a r b s x y = one_cut a b r s x.ends y.ends (sym x.begins ∙ y.begins)
 one_begin capacity text a r b s x y = one_cut a b r s x.ends y.ends (sym x.begins ∙ y.begins)
@@ -27,8 +27,8 @@ lacks_one [] text more number all lacks = absurd (no_line number lacks.line lack
     no_line n line here = cc
 lacks_one (line ∷ lines) text more zero (bytes, rest, begins, others) lacks =
     let same : line ≡ lacks.line = let here = lacks.here in cc in
-    lacks.lacking bytes rest (subst (λ l. BeginsWith l lacks.rest bytes rest) same
-    (subst (λ t. BeginsWith line t bytes rest) lacks.before begins))
+    lacks.lacking bytes rest (subst (λ l. BeginsWithLine l lacks.rest bytes rest) same
+    (subst (λ t. BeginsWithLine line t bytes rest) lacks.before begins))
 lacks_one (line ∷ lines) text more (suc number) (bytes, rest, begins, others) lacks =
     let first = lacks.before in
     let same = one_begin line text bytes rest first.0 first.1 begins first.2 in
@@ -51,13 +51,13 @@ one_lacks (line ∷ lines) text zero zero x y = refl
 one_lacks (line ∷ lines) text zero (suc n) x y =
     let first = y.before in
     let same : line ≡ x.line = let here = x.here in cc in
-    absurd (x.lacking first.0 first.1 (subst (λ l. BeginsWith l x.rest first.0 first.1) same
-    (subst (λ t. BeginsWith line t first.0 first.1) x.before first.2)))
+    absurd (x.lacking first.0 first.1 (subst (λ l. BeginsWithLine l x.rest first.0 first.1) same
+    (subst (λ t. BeginsWithLine line t first.0 first.1) x.before first.2)))
 one_lacks (line ∷ lines) text (suc m) zero x y =
     let first = x.before in
     let same : line ≡ y.line = let here = y.here in cc in
-    absurd (y.lacking first.0 first.1 (subst (λ l. BeginsWith l y.rest first.0 first.1) same
-    (subst (λ t. BeginsWith line t first.0 first.1) y.before first.2)))
+    absurd (y.lacking first.0 first.1 (subst (λ l. BeginsWithLine l y.rest first.0 first.1) same
+    (subst (λ t. BeginsWithLine line t first.0 first.1) y.before first.2)))
 one_lacks (line ∷ lines) text (suc m) (suc n) x y =
     let first = x.before in
     let second = y.before in

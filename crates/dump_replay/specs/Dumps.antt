@@ -7,7 +7,7 @@ use Rattle.command_line.specs.Numbers.{IsWithin}
 use Rattle.catalog_json.specs.Outcome.{most_bytes as most_catalog_bytes, reading_of}
 use Rattle.sql_reader.specs.declared.syntax.Select.{Select}
 use Rattle.dump_replay.specs.Lines.{version_line, capacity_line, root_line, off_line, print_line, catalog_line, query_line}
-use Rattle.dump_replay.specs.Lines.{DumpLine, all_lines, is_one_line, lines_text, BeginsWith, Lacks}
+use Rattle.dump_replay.specs.Lines.{DumpLine, all_lines, is_one_line, lines_text, BeginsWithLine, Lacks}
 use Rattle.dump_replay.specs.Named.{dumped_catalog, named_catalog}
 use Rattle.dump_replay.specs.declared.dump.DumpOptions.{DumpOptions}
 use Rattle.dump_replay.specs.declared.dump.Dump.{Dump}
@@ -48,7 +48,7 @@ pub record IsDump (text : List ℕ) (dump : Dump) : Type 0 where
 abbrev pub AreFirst : List DumpLine → (text more : List ℕ) → Type 0
 AreFirst [] text more = text ≡ more
 AreFirst (line ∷ lines) text more =
-    (bytes : List ℕ) × (rest : List ℕ) × BeginsWith line text bytes rest × AreFirst lines rest more
+    (bytes : List ℕ) × (rest : List ℕ) × BeginsWithLine line text bytes rest × AreFirst lines rest more
 
 -- of these lines the one of this number is the first that is lacking; all before it are there
 pub record IsFirstLacking (lines : List DumpLine) (text : List ℕ) (number : ℕ) : Type 0 where

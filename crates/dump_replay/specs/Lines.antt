@@ -103,14 +103,14 @@ abbrev pub IsFollowed : List ℕ → (bytes more : List ℕ) → Type 0
 IsFollowed text bytes more = text ≡ bytes ++ (10 ∷ more)
 
 -- the text begins with the line, whose bytes are these, and goes on so
-pub record BeginsWith (line : DumpLine) (text bytes more : List ℕ) : Type 0 where
+pub record BeginsWithLine (line : DumpLine) (text bytes more : List ℕ) : Type 0 where
   pub form : HasForm line bytes
   pub ends : Ends line bytes more
   pub begins : IsFollowed text bytes more
 
 -- no such line comes first
 abbrev pub Lacks : DumpLine → List ℕ → Type 0
-Lacks line text = (bytes more : List ℕ) → BeginsWith line text bytes more → ⊥
+Lacks line text = (bytes more : List ℕ) → BeginsWithLine line text bytes more → ⊥
 
 -- the text is cut at its first newline
 pub record IsCut (text line rest : List ℕ) : Type 0 where

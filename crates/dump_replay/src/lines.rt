@@ -3,7 +3,7 @@ ghost use Rattle.std.specs.Prelude.{◌≡◌, ◌≢◌, ◌++◌, ℕ, Bool, L
 ghost use Rattle.std.specs.Bool.{Decides};
 ghost use Rattle.command_line.specs.Numbers.{IsWithin};
 ghost use Rattle.command_line.specs.Options.{MayBeOff};
-ghost use Rattle.dump_replay.specs.Lines.{BeginsWith, HasForm, Lacks, version as the_version};
+ghost use Rattle.dump_replay.specs.Lines.{BeginsWithLine, HasForm, Lacks, version as the_version};
 ghost use Rattle.dump_replay.specs.Lines.{capacity as the_capacity, root as the_root, off as the_off};
 ghost use Rattle.dump_replay.specs.Lines.{print as the_print, catalog as the_catalog, query as the_query};
 ghost use Rattle.dump_replay.specs.Lines.{version_line as the_version_line, capacity_line as the_capacity_line};
@@ -21,7 +21,7 @@ use std::str;
 /// The first line. Nothing but what is behind it is told.
 pub fn version_line(text: &[u8]) -> Option<&[u8]>
     ensures { MatchOption result (Lacks the_version text.now)
-        (λ rest. BeginsWith the_version text.now the_version_line rest.now) }
+        (λ rest. BeginsWithLine the_version text.now the_version_line rest.now) }
 {
     let cut = cut_line(text)?;
     if is_same(cut.line, b"orca dump 1") {
@@ -34,7 +34,7 @@ pub fn version_line(text: &[u8]) -> Option<&[u8]>
 /// The line of the capacity.
 pub fn capacity_line(text: &[u8]) -> Option<(u32, &[u8])>
     ensures says { MatchOption result (Lacks the_capacity text.now)
-        (λ found. BeginsWith the_capacity text.now (the_capacity_line found.0) found.1.now) }
+        (λ found. BeginsWithLine the_capacity text.now (the_capacity_line found.0) found.1.now) }
     ensures within { IfSome result (λ found. IsWithin 64 1048576 found.0) }
 {
     let cut = cut_line(text)?;
@@ -55,7 +55,7 @@ fn capacity_in(line: &[u8]) -> Option<u32>
 /// The line of where the result is wanted.
 pub fn root_line(text: &[u8]) -> Option<(RootDist, &[u8])>
     ensures { MatchOption result (Lacks the_root text.now)
-        (λ found. BeginsWith the_root text.now (the_root_line found.0) found.1.now) }
+        (λ found. BeginsWithLine the_root text.now (the_root_line found.0) found.1.now) }
 {
     let cut = cut_line(text)?;
     let root = root_in(cut.line)?;
@@ -73,7 +73,7 @@ fn root_in(line: &[u8]) -> Option<RootDist>
 /// The line of the rules that are off.
 pub fn off_line_of(alloc: Global, text: &[u8]) -> Result<Option<(u32, &[u8])>, AllocError>
     ensures says { IfOk result (λ found. MatchOption found (Lacks the_off text.now)
-        (λ found. BeginsWith the_off text.now (the_off_line found.0) found.1.now)) }
+        (λ found. BeginsWithLine the_off text.now (the_off_line found.0) found.1.now)) }
     ensures allowed { IfOk result (λ found. IfSome found (λ found. MayBeOff found.0)) }
 {
     let Some(cut) = cut_line(text) else {
@@ -118,7 +118,7 @@ fn rules_in(line: &[u8]) -> Option<u32>
 /// The line of the sections that are printed: whether the memo is, and whether the trace is.
 pub fn print_line(text: &[u8]) -> Option<((bool, bool), &[u8])>
     ensures { MatchOption result (Lacks the_print text.now)
-        (λ found. BeginsWith the_print text.now
+        (λ found. BeginsWithLine the_print text.now
         (the_print_line found.0.0 found.0.1) found.1.now) }
 {
     let cut = cut_line(text)?;
@@ -151,7 +151,7 @@ fn sections_of(word: &str) -> Option<(bool, bool)>
 /// The line of the catalogue.
 pub fn catalog_line(text: &[u8]) -> Option<(&[u8], &[u8])>
     ensures { MatchOption result (Lacks the_catalog text.now)
-        (λ found. BeginsWith the_catalog text.now (the_catalog_line found.0.now) found.1.now) }
+        (λ found. BeginsWithLine the_catalog text.now (the_catalog_line found.0.now) found.1.now) }
 {
     let cut = cut_line(text)?;
     let catalog = behind(cut.line, b"catalog ")?;
@@ -161,7 +161,7 @@ pub fn catalog_line(text: &[u8]) -> Option<(&[u8], &[u8])>
 /// The line of the query, which goes to the end of the text.
 pub fn query_line(text: &[u8]) -> Option<&[u8]>
     ensures { MatchOption result (Lacks the_query text.now)
-        (λ query. BeginsWith the_query text.now (the_query_line query.now) []) }
+        (λ query. BeginsWithLine the_query text.now (the_query_line query.now) []) }
 {
     let rest = behind(text, b"query ")?;
     before_newline(rest)

@@ -1,6 +1,6 @@
 //! The part of a catalogue that a query reads: the tables that FROM names.
 ghost use Rattle.std.specs.Prelude.{◌≡◌, IfOk, filter};
-ghost use Rattle.dump_replay.specs.Named.{is_named as the_named, named_catalog as the_catalog};
+ghost use Rattle.dump_replay.specs.Named.{is_named as the_is_named, named_catalog as the_named_catalog};
 
 use crate::copies::table_copy;
 use orca_base::List;
@@ -14,7 +14,7 @@ pub fn named_catalog(
     select: &Select,
     catalog: &Catalog,
 ) -> Result<Catalog, AllocError>
-    ensures { IfOk result (λ named. named ≡ the_catalog select.now catalog.now) }
+    ensures { IfOk result (λ named. named ≡ the_named_catalog select.now catalog.now) }
 {
     Ok(Catalog {
         segments: catalog.segments,
@@ -27,7 +27,7 @@ fn named_tables(
     from: &[FromItem],
     tables: &[TableInfo],
 ) -> Result<List<TableInfo>, AllocError>
-    ensures { IfOk result (λ named. named ≡ filter (the_named from.now) tables.now) }
+    ensures { IfOk result (λ named. named ≡ filter (the_is_named from.now) tables.now) }
 {
     let mut named = List::new(alloc);
     for table in tables {
@@ -39,7 +39,7 @@ fn named_tables(
 }
 
 fn is_named(from: &[FromItem], table: &TableInfo) -> bool
-    ensures { result ≡ the_named from.now table.now }
+    ensures { result ≡ the_is_named from.now table.now }
 {
     from.iter()
         .any(|item| table.name.as_str() == item.table.as_str())

@@ -1,7 +1,7 @@
 //! The lines of a dump, as they are written.
 ghost use Rattle.std.specs.Prelude.{◌≡◌, ◌++◌, IfOk, OnOk, string_bytes};
 ghost use Rattle.xform_rules.specs.Rules.{rule_name};
-ghost use Rattle.command_line.specs.Options.{root_word as the_word};
+ghost use Rattle.command_line.specs.Options.{root_word as the_root_word};
 ghost use Rattle.dump_replay.specs.Lines.{off_line as the_off_line, print_line as the_print_line};
 
 use query_core::{RootDist, sets};
@@ -10,7 +10,7 @@ use xform_rules::Rule;
 
 /// The word for where the result is wanted.
 pub fn root_word(root: RootDist) -> &'static str
-    ensures { result.now ≡ the_word root }
+    ensures { result.now ≡ the_root_word root }
 {
     match root {
         RootDist::One => "one",

@@ -2,7 +2,7 @@
 ghost use Rattle.std.specs.Prelude.{◌≡◌, ◌++◌, ℕ, List, IfOk, codes, string_bytes};
 ghost use Rattle.query_core.specs.Catalog.{IsCatalog};
 ghost use Rattle.sql_reader.specs.Faults.{IsReading};
-ghost use Rattle.dump_replay.specs.Dumps.{AreDumpOptions, Dumps, text_of as the_text};
+ghost use Rattle.dump_replay.specs.Dumps.{AreDumpOptions, Dumps, text_of as the_text_of};
 
 use crate::dump::{DumpFault, DumpOptions};
 use crate::named::named_catalog;
@@ -47,7 +47,7 @@ fn text_of(
     catalog: &[u8],
     query: &[u8],
 ) -> Result<Vec<u8>, AllocError>
-    ensures { IfOk result (λ text. text.items ≡ the_text options.now catalog.now query.now) }
+    ensures { IfOk result (λ text. text.items ≡ the_text_of options.now catalog.now query.now) }
 {
     let mut text = head_of(alloc, options)?.into_bytes();
     text.extend_from_slice(catalog)?;
@@ -61,7 +61,7 @@ fn text_of(
 fn head_of(alloc: Global, options: &DumpOptions) -> Result<String, AllocError>
     ensures { IfOk result (λ head. (catalog query : List ℕ) → string_bytes head
         ++ (catalog ++ (codes "\nquery " ++ (query ++ codes "\n")))
-        ≡ the_text options.now catalog query) }
+        ≡ the_text_of options.now catalog query) }
 {
     let capacity = options.capacity;
     let root = root_word(options.options.root);

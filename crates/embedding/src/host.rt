@@ -1,7 +1,8 @@
 //! What a host has of its own: the statistics of its tables, and a statement that its parser made.
 ghost use Rattle.std.specs.Prelude.{◌≡◌, IfOk};
 ghost use Rattle.sql_reader.specs.Readable.{IsReadable};
-ghost use Rattle.embedding.specs.Statement.{column_of, count_shown, join_of_both, region_shown, statement as statement_meant, table_of};
+ghost use Rattle.embedding.specs.Statement.{column_of, count_shown, join_of_both, region_shown};
+ghost use Rattle.embedding.specs.Statement.{statement as the_statement, table_of};
 
 use orca_base::{List, Text};
 use query_core::{Catalog, ColumnInfo, Placing, TableInfo};
@@ -63,7 +64,7 @@ fn push_column(
 /// `SELECT customers.region, COUNT(*) AS placed FROM orders, customers
 /// WHERE orders.customer = customers.id GROUP BY customers.region`
 pub fn statement(alloc: Global) -> Result<Select, AllocError>
-    ensures meant { IfOk result (λ made. made ≡ statement_meant) }
+    ensures meant { IfOk result (λ made. made ≡ the_statement) }
     ensures readable { IfOk result IsReadable }
 {
     Ok(Select {
@@ -76,7 +77,7 @@ pub fn statement(alloc: Global) -> Result<Select, AllocError>
 }
 
 fn shown(alloc: Global) -> Result<List<SelItem>, AllocError>
-    ensures { IfOk result (λ items. items ≡ statement_meant.items) }
+    ensures { IfOk result (λ items. items ≡ the_statement.items) }
 {
     let mut items = List::new(alloc);
     items.push(region(alloc)?)?;
@@ -108,7 +109,7 @@ fn count(alloc: Global) -> Result<SelItem, AllocError>
 }
 
 fn tables(alloc: Global) -> Result<List<FromItem>, AllocError>
-    ensures { IfOk result (λ tables. tables ≡ statement_meant.from) }
+    ensures { IfOk result (λ tables. tables ≡ the_statement.from) }
 {
     let mut tables = List::new(alloc);
     tables.push(from(alloc, "orders")?)?;
@@ -117,7 +118,7 @@ fn tables(alloc: Global) -> Result<List<FromItem>, AllocError>
 }
 
 fn conditions(alloc: Global) -> Result<List<SelPred>, AllocError>
-    ensures { IfOk result (λ preds. preds ≡ statement_meant.preds) }
+    ensures { IfOk result (λ preds. preds ≡ the_statement.preds) }
 {
     let mut preds = List::new(alloc);
     preds.push(joined(alloc)?)?;
@@ -135,7 +136,7 @@ fn joined(alloc: Global) -> Result<SelPred, AllocError>
 }
 
 fn groups(alloc: Global) -> Result<List<ColRef>, AllocError>
-    ensures { IfOk result (λ columns. columns ≡ statement_meant.group_by) }
+    ensures { IfOk result (λ columns. columns ≡ the_statement.group_by) }
 {
     let mut columns = List::new(alloc);
     columns.push(column(alloc, "customers", "region")?)?;

@@ -7,7 +7,7 @@ use lib.ListN.{get_elem?}
 use Rattle.board_rule.specs.Meaning.{Meaning}
 use Rattle.board_rule.specs.Words.{mem, full_word, cell_word, head_word, cost_word, node_word}
 use Rattle.board_rule.specs.Looks.{Looked, ShowsFull, ShowsClosed}
-use Rattle.board_rule.specs.Rule.{HoldsGoal}
+use Rattle.board_rule.specs.Soundness.{HoldsGoal}
 use Rattle.board_rule.proofs.Chains.{later_closed}
 use Rattle.board_rule.proofs.WakeUps.{no_wake_up_lost, some_ready}
 use Rattle.board_rule.specs.Seats.{total, looked}

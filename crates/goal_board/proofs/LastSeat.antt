@@ -8,7 +8,7 @@ use Rattle.board_rule.specs.Meaning.{Meaning}
 use Rattle.board_rule.specs.Records.{Ended}
 use Rattle.board_rule.specs.Words.{mem}
 use Rattle.board_rule.specs.Seats.{Among, times, total, spent}
-use Rattle.board_rule.specs.Rule.{HoldsGoal, IsRecorded, IsSound, ended}
+use Rattle.board_rule.specs.Soundness.{HoldsGoal, IsRecorded, IsSound, ended}
 use Rattle.board_rule.specs.declared.hands.Hands.{Hands}
 use Rattle.board_rule.proofs.Lists.{among_counts, each_at, terms_le}
 use Rattle.board_rule.proofs.WakeUps.{no_wake_up_lost, registered_not_ready}

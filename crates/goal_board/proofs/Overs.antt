@@ -7,7 +7,7 @@ use Rattle.board_rule.specs.Meaning.{Meaning}
 use Rattle.board_rule.specs.Words.{mem, cell_word}
 use Rattle.board_rule.specs.Looks.{Looked}
 use Rattle.board_rule.specs.Seats.{changed, looked, placed, joined, lasting}
-use Rattle.board_rule.specs.Rule.{IsSound}
+use Rattle.board_rule.specs.Soundness.{IsSound}
 use Rattle.board_rule.specs.Plays.{Moment}
 use Rattle.board_rule.specs.declared.hands.Hands.{Hands}
 use Rattle.board_rule.proofs.SeenByTwo.{looked_append, lasting_looked}

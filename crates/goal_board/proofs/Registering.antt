@@ -8,7 +8,7 @@ use Rattle.board_rule.specs.Words.{mem, run_word, head_word, next_word}
 use Rattle.board_rule.specs.Waiters.{pushed, cleared, waiting}
 use Rattle.board_rule.specs.Seats.{Among, changed, waits_at, with_wait, woken_by, wait_begun, next_stored, wait_put}
 use Rattle.board_rule.specs.Seats.{wait_dropped}
-use Rattle.board_rule.specs.Rule.{IsRaised}
+use Rattle.board_rule.specs.Soundness.{IsRaised}
 use Rattle.board_rule.specs.May.{HasRight}
 use Rattle.board_rule.specs.Plays.{Moment, Leaves}
 use Rattle.board_rule.specs.declared.hands.Hands.{Hands}

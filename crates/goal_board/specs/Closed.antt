@@ -8,7 +8,7 @@ use Rattle.board_rule.specs.Records.{Ended}
 use Rattle.board_rule.specs.Words.{Mem, mem}
 use Rattle.board_rule.specs.Looks.{ShowsFull}
 use Rattle.board_rule.specs.Seats.{Among}
-use Rattle.board_rule.specs.Rule.{HoldsGoal, IsFull, IsRecorded, IsSound}
+use Rattle.board_rule.specs.Soundness.{HoldsGoal, IsFull, IsRecorded, IsSound}
 use Rattle.board_rule.specs.declared.hands.Hands.{Hands}
 use Rattle.goal_board.specs.declared.answers.Closed.{Closed}
 use Rattle.goal_board.specs.declared.answers.Answer.{Answer}

@@ -12,7 +12,7 @@ use Rattle.query_core.specs.declared.expressions.Children.{Children}
 use Rattle.query_core.specs.declared.expressions.Children.TheVariants as arities
 use Rattle.query_core.specs.declared.expressions.PhysicalExpr.{PhysicalExpr}
 use Rattle.request_props.specs.Numbered.{lists_of, orders_of}
-use Rattle.request_props.specs.Requests.{IsInRange}
+use Rattle.request_props.specs.Requests.{IsRequestInRange}
 use Rattle.request_props.specs.declared.request.Request.{Request}
 use Rattle.plan_space.specs.Alternatives.{asked_of, IsAlternative}
 use Rattle.plan_space.specs.Choices.{groups_of}
@@ -33,10 +33,11 @@ use Rattle.goal_children.proofs.OverChildren.{request_in_range}
 
 -- what is asked has a code, if each such request has one
 asked_in_range : (asked : Option (Key × Request)) (found : Option Request) → found ≡ option_map (λ a. a.1) asked
-    → ((ask : Key × Request) → asked ≡ Some ask → IsInRange ask.1)
-    → IfSome found IsInRange
-asked_in_range None found is each = subst (λ (r : Option Request). IfSome r IsInRange) (sym is) tt
-asked_in_range (Some ask) found is each = subst (λ (r : Option Request). IfSome r IsInRange) (sym is) (each ask refl)
+    → ((ask : Key × Request) → asked ≡ Some ask → IsRequestInRange ask.1)
+    → IfSome found IsRequestInRange
+asked_in_range None found is each = subst (λ (r : Option Request). IfSome r IsRequestInRange) (sym is) tt
+asked_in_range (Some ask) found is each =
+    subst (λ (r : Option Request). IfSome r IsRequestInRange) (sym is) (each ask refl)
 
 module _ (q : Query) where
   -- the goal for what is asked of a group
@@ -156,7 +157,8 @@ module _ (q : Query) where
             (asks_what_fits : AsksWhatFits q) (candidate : IsCandidate q (expr_of e))
             (numbered : IsNumberedRequest q wanted) where
           ask_in_range : (group : KeyParts) (below : Request)
-              → IsAsked (groups_of (physical_children e.operator)) (asked_of line wanted) group below → IsInRange below
+              → IsAsked (groups_of (physical_children e.operator)) (asked_of line wanted) group below
+              → IsRequestInRange below
           ask_in_range group below is_asked =
               request_in_range q few_lists few_orders below
               (asks_numbered q asks_what_fits e wanted group below candidate numbered (record {
@@ -167,13 +169,13 @@ module _ (q : Query) where
               }))
 
           pub first_in_range : (first : Option Request) → first ≡ option_map (λ a. a.1) alt.left
-              → IfSome first IsInRange
+              → IfSome first IsRequestInRange
           first_in_range first is_first = asked_in_range alt.left first is_first (λ ask is.
               let (group, is_asked) = left_is_asked (physical_children e.operator) (asked_of line wanted) by.asks ask
               is in ask_in_range group ask.1 is_asked)
 
           pub second_in_range : (second : Option Request) → second ≡ option_map (λ a. a.1) alt.right
-              → IfSome second IsInRange
+              → IfSome second IsRequestInRange
           second_in_range second is_second = asked_in_range alt.right second is_second (λ ask is.
               let (group, is_asked) = right_is_asked (physical_children e.operator) (asked_of line wanted) by.asks ask
               is in ask_in_range group ask.1 is_asked)

@@ -6,7 +6,7 @@ use Rattle.std.specs.List.Sorted.{IsStrictlyIncreasing}
 use Rattle.std.proofs.lemmas.List.{map-append}
 use Rattle.query_core.proofs.Rising.{rises_push}
 use Rattle.query_core.specs.declared.query.Query.{Query}
-use Rattle.goal_space.specs.Words.{goal_word, IsInRange}
+use Rattle.goal_space.specs.Words.{goal_word, IsGoalInRange}
 use Rattle.goal_space.specs.declared.goals.GoalKind.{GoalKind}
 use Rattle.goal_children.specs.Children.{AreChildren, IsChildIn}
 use Rattle.goal_children.specs.Finding.{AppendsGoals, InsertsGoals}
@@ -25,7 +25,7 @@ appends_nothing Kind goals none = record { collects = collects_nothing Kind goal
 
 -- one goal comes
 pub appends_one : (Kind : GoalKind → Type 0) (old new : List GoalKind) (goal : GoalKind)
-    → ((k : GoalKind) → (Kind k ↔ (k ≡ goal))) → IsInRange goal → new ≡ old ++ goal ∷ []
+    → ((k : GoalKind) → (Kind k ↔ (k ≡ goal))) → IsGoalInRange goal → new ≡ old ++ goal ∷ []
     → AppendsGoals Kind old new
 appends_one Kind old new goal only in_range comes = record {
   collects = collects_one Kind old new goal only in_range comes;
@@ -104,5 +104,5 @@ are_children q words goal old new none appends =
     }
 
 -- no goals fit
-pub none_listed : (goals : List GoalKind) → goals ≡ [] → All IsInRange goals
-none_listed goals none = subst (All IsInRange) (sym none) (λ k d within. absurd (omega (arith, within)))
+pub none_listed : (goals : List GoalKind) → goals ≡ [] → All IsGoalInRange goals
+none_listed goals none = subst (All IsGoalInRange) (sym none) (λ k d within. absurd (omega (arith, within)))

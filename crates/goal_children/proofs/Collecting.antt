@@ -2,7 +2,7 @@
 use Rattle.std.proofs.Common.{◌≡◌, ◌↔◌, List, [], ◌∷◌, ◌++◌, ◌⊎◌, inl, inr, sym, subst}
 use Rattle.std.specs.List.{Contains}
 use Rattle.std.proofs.lemmas.List.Elements.{All-push, Contains-append_left, Contains-push, Contains-push_cases}
-use Rattle.goal_space.specs.Words.{IsInRange}
+use Rattle.goal_space.specs.Words.{IsGoalInRange}
 use Rattle.goal_space.specs.declared.goals.GoalKind.{GoalKind}
 use Rattle.goal_children.specs.Finding.{Collects}
 
@@ -16,7 +16,7 @@ collects_nothing Kind goals none = record {
 
 -- one goal comes
 pub collects_one : (Kind : GoalKind → Type 0) (old new : List GoalKind) (goal : GoalKind)
-    → ((k : GoalKind) → (Kind k ↔ (k ≡ goal))) → IsInRange goal → new ≡ old ++ goal ∷ []
+    → ((k : GoalKind) → (Kind k ↔ (k ≡ goal))) → IsGoalInRange goal → new ≡ old ++ goal ∷ []
     → Collects Kind old new
 collects_one Kind old new goal only in_range comes = subst (Collects Kind old) (sym comes) (record {
   exact = λ k. (
@@ -30,7 +30,7 @@ collects_one Kind old new goal only in_range comes = subst (Collects Kind old) (
       | inr is ↦ subst (Contains (old ++ goal ∷ [])) (sym ((only k).0 is)) (Contains-push old goal)
     ],
   );
-  in_range = λ all. All-push IsInRange old goal all in_range;
+  in_range = λ all. All-push IsGoalInRange old goal all in_range;
 })
 
 -- the same kind in other words

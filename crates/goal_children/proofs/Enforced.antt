@@ -6,11 +6,11 @@ use Rattle.std.specs.Option.{option_map}
 use Rattle.query_core.specs.declared.query.Query.{Query}
 use Rattle.query_core.specs.declared.words.KeyParts.{KeyParts}
 use Rattle.request_props.specs.Numbered.{lists_of, orders_of}
-use Rattle.request_props.specs.Requests.{IsInRange}
+use Rattle.request_props.specs.Requests.{IsRequestInRange}
 use Rattle.request_props.specs.declared.request.Request.{Request}
 use Rattle.plan_space.specs.Enforcers.{EnforcedBy, enforcers_of, Among}
 use Rattle.plan_space.proofs.Enforcers.{few_by}
-use Rattle.plan_tree.specs.Enforcers.{AreKept, IsEnforced, IsEnforcerAt, LiesIn}
+use Rattle.plan_tree.specs.Enforcers.{AreFitting, IsEnforced, IsEnforcerAt, LiesIn}
 use Rattle.plan_tree.specs.declared.enforcers.Enforced.{Enforced}
 use Rattle.goal_space.specs.declared.goals.GoalKind.{GoalKind}
 use Rattle.goal_space.specs.declared.goals.GoalKind.TheVariants.{Opt}
@@ -23,7 +23,8 @@ use Rattle.goal_children.proofs.OverChildren.{request_in_range}
 
 module _ (q : Query) (group : KeyParts) where
   -- the enforcers that are kept are one list
-  kept_one : (all kept others : List EnforcedBy) → AreKept q group all kept → AreKept q group all others → kept ≡ others
+  kept_one : (all kept others : List EnforcedBy) → AreFitting q group all kept → AreFitting q group all others
+      → kept ≡ others
   kept_one [] kept others are also = are ∙ sym also
   kept_one (first ∷ all) kept others (inl (lies, (rest, are, is))) (inl (lies_too, (other_rest, also, is_too))) =
       is ∙ ap (λ es. first ∷ es) (kept_one all rest other_rest are also) ∙ sym is_too
@@ -32,13 +33,13 @@ module _ (q : Query) (group : KeyParts) where
   kept_one (first ∷ all) kept others (inr (not, are)) (inr (not_too, also)) = kept_one all kept others are also
 
   -- no more are kept than there are
-  kept_few : (all kept : List EnforcedBy) → AreKept q group all kept → length kept ≤ length all
+  kept_few : (all kept : List EnforcedBy) → AreFitting q group all kept → length kept ≤ length all
   kept_few [] kept are = omega (arith, ap length are)
   kept_few (first ∷ all) kept (inl (lies, (rest, are, is))) = omega (arith, ap length is, kept_few all rest are)
   kept_few (first ∷ all) kept (inr (not, are)) = omega (arith, kept_few all kept are)
 
   -- one that is kept is one of all, and lies in the group
-  kept_of : (all kept : List EnforcedBy) (e : EnforcedBy) → AreKept q group all kept → Among e kept → Among e all
+  kept_of : (all kept : List EnforcedBy) (e : EnforcedBy) → AreFitting q group all kept → Among e kept → Among e all
       × LiesIn q group e.node
   kept_of [] kept e are among = absurd (subst (Among e) are among)
   kept_of (first ∷ all) kept e (inl (lies, (rest, are, is))) among = elim (subst (Among e) is among) [
@@ -49,7 +50,7 @@ module _ (q : Query) (group : KeyParts) where
       (inr there, in_group)
 
   -- and each that lies in the group is kept
-  of_kept : (all kept : List EnforcedBy) (e : EnforcedBy) → AreKept q group all kept → Among e all
+  of_kept : (all kept : List EnforcedBy) (e : EnforcedBy) → AreFitting q group all kept → Among e all
       → LiesIn q group e.node → Among e kept
   of_kept [] kept e are among lies_in = absurd among
   of_kept (first ∷ all) kept e (inl (lies, (rest, are, is))) (inl same) lies_in = subst (Among e) (sym is) (inl same)
@@ -69,7 +70,7 @@ asked_below (Some found) (Some e) is = ap Some is.1
 
 -- the goal for what an enforcer that is kept asks for
 one_as : (q : Query) (group : KeyParts) (wanted : Request) (kept : List EnforcedBy)
-    → AreKept q group (enforcers_of wanted) kept → (e : EnforcedBy) → Among e kept
+    → AreFitting q group (enforcers_of wanted) kept → (e : EnforcedBy) → Among e kept
     → (goal : GoalKind) → IsOfRequest group (Some e.below) goal → IsOfEnforcer q group wanted goal
 one_as q group wanted kept are e among goal (below, same, is) =
     let at : e.below ≡ below = cc in
@@ -78,7 +79,7 @@ one_as q group wanted kept are e among goal (below, same, is) =
 
 -- the same of the first two that are kept
 both_as : (q : Query) (group : KeyParts) (wanted : Request) (kept : List EnforcedBy)
-    → AreKept q group (enforcers_of wanted) kept → (goal : GoalKind)
+    → AreFitting q group (enforcers_of wanted) kept → (goal : GoalKind)
     → IsOfRequest group (option_map (λ x. x.below) (slice_get kept 0)) goal
     ⊎ IsOfRequest group (option_map (λ x. x.below) (slice_get kept 1)) goal
     → IsOfEnforcer q group wanted goal
@@ -107,7 +108,7 @@ of_two group (first ∷ second ∷ []) few e (inr (inr among)) goal is = absurd 
 of_two group (first ∷ second ∷ third ∷ rest) few e (inr (inr among)) goal is = absurd (omega (arith, few))
 
 as_both : (q : Query) (group : KeyParts) (wanted : Request) (kept : List EnforcedBy)
-    → AreKept q group (enforcers_of wanted) kept → (goal : GoalKind)
+    → AreFitting q group (enforcers_of wanted) kept → (goal : GoalKind)
     → IsOfEnforcer q group wanted goal
     → IsOfRequest group (option_map (λ x. x.below) (slice_get kept 0)) goal
     ⊎ IsOfRequest group (option_map (λ x. x.below) (slice_get kept 1)) goal
@@ -154,17 +155,19 @@ among_at (e ∷ kept) (suc place) found is = let (other, among, same) = among_at
 module _ (q : Query) (few_lists : length (lists_of q) ≤ 60) (few_orders : length (orders_of q) ≤ 60) where
   below_by : (group : KeyParts) (wanted : Request) (place : ℕ) (found : Option Enforced) → IsNumberedRequest q wanted
       → IsEnforcerAt q group wanted place found
-      → IfSome (option_map (λ x. x.below) found) IsInRange
+      → IfSome (option_map (λ x. x.below) found) IsRequestInRange
   below_by group wanted place None numbered is = tt
   below_by group wanted place (Some found) numbered is =
       let (e, among, same) = among_at is.kept place found is.at_place in
       let there = (kept_of q group (enforcers_of wanted) is.kept e is.are_kept among).0 in
-      subst IsInRange (sym same) (request_in_range q few_lists few_orders e.below
+      subst IsRequestInRange (sym same) (request_in_range q few_lists few_orders e.below
       (enforcer_numbered q wanted e numbered there))
 
   -- what an enforcer asks for has a code
   pub below_in_range : (group : KeyParts) (wanted : Request) (place : ℕ) (found : Option Enforced)
       (below : Option Request) → IsNumberedRequest q wanted
-      → IsEnforcerAt q group wanted place found → below ≡ option_map (λ x. x.below) found → IfSome below IsInRange
+      → IsEnforcerAt q group wanted place found → below ≡ option_map (λ x. x.below) found
+      → IfSome below IsRequestInRange
   below_in_range group wanted place found below numbered is same =
-      subst (λ (r : Option Request). IfSome r IsInRange) (sym same) (below_by group wanted place found numbered is)
+      subst (λ (r : Option Request). IfSome r IsRequestInRange) (sym same)
+      (below_by group wanted place found numbered is)

@@ -2,13 +2,13 @@
 use Rattle.std.proofs.Common.{◌≡◌, ℕ, ◌≤◌, Option, None, Some, sym, subst, arith, ◌⊎◌, inl, inr}
 use Rattle.std.specs.Prelude.{nat_lt, IfSome}
 use Rattle.std.proofs.lemmas.Bool.{cond_both, ltb-true, ltb-false}
-use Rattle.goal_space.specs.Words.{goal_word, IsInRange}
+use Rattle.goal_space.specs.Words.{goal_word, IsGoalInRange}
 use Rattle.goal_space.specs.declared.goals.GoalKind.{GoalKind}
 use Rattle.goal_children.specs.Finding.{IsLeastFrom, FindsFrom, sooner_of}
 
 -- what is found has a word
 pub found_in_range : (S : GoalKind → Type 0) (bound : ℕ) (found : Option GoalKind) → FindsFrom S bound found
-    → IfSome found IsInRange
+    → IfSome found IsGoalInRange
 found_in_range S bound None finds = tt
 found_in_range S bound (Some found) finds = finds.in_range
 

@@ -13,7 +13,7 @@ use Rattle.query_core.specs.declared.words.KeyParts.{KeyParts}
 use Rattle.query_core.specs.declared.expressions.Children.{Children}
 use Rattle.query_core.specs.declared.expressions.Children.TheVariants as arities
 use Rattle.request_props.specs.declared.request.Request.{Request}
-use Rattle.goal_space.specs.Words.{goal_word, IsInRange}
+use Rattle.goal_space.specs.Words.{goal_word, IsGoalInRange}
 use Rattle.goal_space.specs.declared.goals.GoalKind.TheVariants.{Opt}
 use Rattle.goal_space.specs.declared.goals.GoalKind.{GoalKind}
 use Rattle.goal_children.specs.Choices.{IsOfAsked, IsOfRequest}
@@ -101,7 +101,7 @@ module _ (goals : List GoalKind) (goal : GoalKind) where
   }
 
   -- it comes to its place
-  pub inserted_at : (place : ℕ) (new : List GoalKind) → new ≡ insert goals place goal → IsInRange goal
+  pub inserted_at : (place : ℕ) (new : List GoalKind) → new ≡ insert goals place goal → IsGoalInRange goal
       → IsPlaceFor goals (goal_word goal) place → InsertsGoals (λ k. k ≡ goal) goals new
   inserted_at place new comes in_range is =
       let moved : IsPermutation (goal ∷ goals) (insert goals place goal) = IsPermutation-insert goals place goal in
@@ -119,8 +119,8 @@ module _ (goals : List GoalKind) (goal : GoalKind) where
                   | inr same ↦ (0, omega arith, sym same)
                 ]),
           );
-          in_range = λ all. All-permutation IsInRange (goal ∷ goals) (insert goals place goal) moved
-              (All-cons IsInRange goal goals in_range all);
+          in_range = λ all. All-permutation IsGoalInRange (goal ∷ goals) (insert goals place goal) moved
+              (All-cons IsGoalInRange goal goals in_range all);
         };
         rises = λ rises. subst IsStrictlyIncreasing (sym (words_insert goals place goal))
             (rises_insert (map goal_word goals) place (goal_word goal) rises (omega (arith, is.within, long))

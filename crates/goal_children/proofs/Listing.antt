@@ -10,7 +10,7 @@ use Rattle.std.proofs.lemmas.List.Elements.{Contains-append_left, Contains-get_o
 use Rattle.query_core.specs.declared.query.Query.{Query}
 use Rattle.query_core.specs.declared.words.Goal.{Goal}
 use Rattle.query_core.specs.declared.words.KeyParts.TheVariants.{Partial}
-use Rattle.goal_space.specs.Words.{goal_word, IsInRange}
+use Rattle.goal_space.specs.Words.{goal_word, IsGoalInRange}
 use Rattle.goal_space.specs.declared.goals.GoalKind.{GoalKind}
 use Rattle.goal_space.specs.declared.goals.GoalKind.TheVariants.{Exp}
 use Rattle.goal_children.specs.Children.{IsChildIn, IsBehind, IsNextChild, IsLastChild, AreChildren, AreChildrenBelow}
@@ -74,8 +74,8 @@ module _ (q : Query) (words : List ℕ) (goal : GoalKind) where
 
   -- with the next one
   pub up_to_next : (before : Option Goal) (children : List GoalKind) (next : GoalKind) (word : Goal)
-      → ((k l : GoalKind) → IsInRange k → IsInRange l → goal_word k ≡ goal_word l → k ≡ l)
-      → ((child : GoalKind) → IsChildIn q words goal child → IsInRange child) → word.0 ≡ goal_word next
+      → ((k l : GoalKind) → IsGoalInRange k → IsGoalInRange l → goal_word k ≡ goal_word l → k ≡ l)
+      → ((child : GoalKind) → IsChildIn q words goal child → IsGoalInRange child) → word.0 ≡ goal_word next
       → AreUpTo before children → IsNextChild q words goal before next → AreUpTo (Some word) (children ++ next ∷ [])
   up_to_next before children next word one in_range number are is =
       let less : (child : GoalKind) → Contains children child → goal_word child < goal_word next =

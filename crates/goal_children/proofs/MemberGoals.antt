@@ -13,7 +13,7 @@ use Rattle.query_core.specs.declared.words.KeyParts.{KeyParts}
 use Rattle.query_core.specs.declared.expressions.ExprParts.{ExprParts}
 use Rattle.query_core.specs.declared.expressions.PhysicalExpr.{PhysicalExpr}
 use Rattle.query_core.proofs.ExpressionLemmas.{expr_of_one}
-use Rattle.goal_space.specs.Words.{goal_word, IsInRange}
+use Rattle.goal_space.specs.Words.{goal_word, IsGoalInRange}
 use Rattle.goal_space.specs.declared.goals.GoalKind.{GoalKind}
 use Rattle.goal_space.specs.declared.goals.GoalKind.TheVariants.{OptE}
 use Rattle.goal_children.specs.declared.jobs.MemberJob.{MemberJob}
@@ -77,7 +77,8 @@ module _ (q : Query) (packed : (e : ExprParts) → IsCandidate q e → IsPacked 
 
     -- which fits
     pub found_fits : IsJobInRange job → (found : Option GoalKind)
-        → MatchOption found ((goal : GoalKind) → IsGoalOf q job e goal → ⊥) (IsGoalOf q job e) → IfSome found IsInRange
+        → MatchOption found ((goal : GoalKind) → IsGoalOf q job e goal → ⊥) (IsGoalOf q job e)
+        → IfSome found IsGoalInRange
     found_fits in_range None none = tt
     found_fits in_range (Some goal) is = goal_in_range q job e goal in_range (packed e candidate) is
 

@@ -14,7 +14,7 @@ use Rattle.query_core.specs.declared.query.Query.{Query}
 use Rattle.query_core.specs.declared.words.KeyParts.{KeyParts}
 use Rattle.query_core.specs.declared.expressions.ExprParts.{ExprParts}
 use Rattle.request_props.specs.Numbered.{lists_of, orders_of}
-use Rattle.goal_space.specs.Words.{goal_word, IsInRange}
+use Rattle.goal_space.specs.Words.{goal_word, IsGoalInRange}
 use Rattle.goal_space.specs.declared.goals.GoalKind.{GoalKind}
 use Rattle.goal_space.specs.declared.phase.Phase.{Phase}
 use Rattle.goal_space.specs.declared.phase.Phase.TheVariants.{Exploration, Implementation}
@@ -52,7 +52,7 @@ expr_goal_word : (phase : Phase) (e : ExprParts)
 expr_goal_word Exploration e = refl
 expr_goal_word Implementation e = refl
 
-expr_goal_in_range : (phase : Phase) (e : ExprParts) → IsPacked e → IsInRange (phase_goal_of_expr phase e)
+expr_goal_in_range : (phase : Phase) (e : ExprParts) → IsPacked e → IsGoalInRange (phase_goal_of_expr phase e)
 expr_goal_in_range Exploration e packed = packed
 expr_goal_in_range Implementation e packed = packed
 
@@ -95,11 +95,11 @@ module _ (q : Query) where
 
   -- and it fits
   pub goal_in_range : (job : MemberJob) (e : ExprParts) (goal : GoalKind) → IsJobInRange job → IsPacked e
-      → IsGoalOf q job e goal → IsInRange goal
+      → IsGoalOf q job e goal → IsGoalInRange goal
   goal_in_range (Transform phase) e goal of_job packed is =
-      subst IsInRange (sym is.1) (expr_goal_in_range phase e packed)
+      subst IsGoalInRange (sym is.1) (expr_goal_in_range phase e packed)
   goal_in_range (Serve wanted) e goal of_job packed is =
-      subst IsInRange (sym is.number) (subst IsPacked is.is packed, of_job)
+      subst IsGoalInRange (sym is.number) (subst IsPacked is.is packed, of_job)
 
   -- ---- members
 

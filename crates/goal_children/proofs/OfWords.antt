@@ -3,7 +3,7 @@ use Rattle.std.proofs.Common.{◌≡◌, ℕ, ◌+◌, ◌<◌, List, [], ◌∷
 use Rattle.std.proofs.Common.{arith}
 use Rattle.std.proofs.lemmas.List.{map-append, take_more}
 use Rattle.std.proofs.lemmas.List.Elements.{All-push}
-use Rattle.goal_space.specs.Words.{goal_word, HasWord, IsInRange}
+use Rattle.goal_space.specs.Words.{goal_word, HasWord, IsGoalInRange}
 use Rattle.goal_space.specs.declared.goals.GoalKind.{GoalKind}
 use Rattle.goal_children.specs.GoalLists.{HaveGoalWords, IsWordOfGoal}
 
@@ -23,5 +23,5 @@ one_more_word words i goals known within (goal, has) only have =
     record {
       numbers = map-append goal_word goals (known ∷ []) ∙ ap (λ ws. ws ++ goal_word known ∷ []) have.numbers
           ∙ ap (λ w. take i words ++ w ∷ []) is.number ∙ sym more;
-      in_range = All-push IsInRange goals known have.in_range is.in_range;
+      in_range = All-push IsGoalInRange goals known have.in_range is.in_range;
     }

@@ -5,7 +5,7 @@ use Rattle.std.proofs.lemmas.List.{get_or-map, length-map}
 use Rattle.std.proofs.lemmas.List.Elements.{All-head, All-tail, Contains-get_or}
 use Rattle.query_core.specs.declared.query.Query.{Query}
 use Rattle.xform_rules.proofs.OneClosure.{increasing_one}
-use Rattle.goal_space.specs.Words.{goal_word, IsInRange}
+use Rattle.goal_space.specs.Words.{goal_word, IsGoalInRange}
 use Rattle.goal_space.specs.declared.goals.GoalKind.{GoalKind}
 use Rattle.goal_children.specs.Children.{IsChildIn, AreChildren}
 use Rattle.goal_children.proofs.Listing.{some_goal}
@@ -25,10 +25,10 @@ one_list number Fits one (k ∷ ks) (l ∷ ls) first second same =
     cc
 
 -- so words are those of one list of goals
-pub goals_one : ((k l : GoalKind) → IsInRange k → IsInRange l → goal_word k ≡ goal_word l → k ≡ l)
-    → (goals others : List GoalKind) → All IsInRange goals → All IsInRange others
+pub goals_one : ((k l : GoalKind) → IsGoalInRange k → IsGoalInRange l → goal_word k ≡ goal_word l → k ≡ l)
+    → (goals others : List GoalKind) → All IsGoalInRange goals → All IsGoalInRange others
     → map goal_word goals ≡ map goal_word others → goals ≡ others
-goals_one = one_list goal_word IsInRange
+goals_one = one_list goal_word IsGoalInRange
 
 -- a word of some goals is that of one of them
 pub goal_of_word : (goals : List GoalKind) (word : ℕ) → Contains (map goal_word goals) word → (goal : GoalKind)
@@ -56,8 +56,8 @@ module _ (q : Query) (words : List ℕ) (goal : GoalKind) where
       (word_of_goal others child ((also.exact child).1 ((are.exact child).0 inside)))
 
   -- so the children are one list
-  pub children_one : ((k l : GoalKind) → IsInRange k → IsInRange l → goal_word k ≡ goal_word l → k ≡ l)
-      → ((child : GoalKind) → IsChildIn q words goal child → IsInRange child)
+  pub children_one : ((k l : GoalKind) → IsGoalInRange k → IsGoalInRange l → goal_word k ≡ goal_word l → k ≡ l)
+      → ((child : GoalKind) → IsChildIn q words goal child → IsGoalInRange child)
       → (children others : List GoalKind) → AreChildren q words goal children → AreChildren q words goal others
       → children ≡ others
   children_one one in_range children others are also =

@@ -11,7 +11,7 @@ use Rattle.request_props.specs.Requests as requests
 use Rattle.request_props.specs.Numbered.{lists_of, orders_of}
 use Rattle.request_props.specs.declared.request.Request.{Request}
 use Rattle.plan_space.specs.Laws.{AsksWhatFits}
-use Rattle.goal_space.specs.Words.{IsInRange}
+use Rattle.goal_space.specs.Words.{IsGoalInRange}
 use Rattle.goal_space.specs.OfMembers.{left_child, asked_child}
 use Rattle.goal_space.specs.Laws.{IsOfCandidate}
 use Rattle.goal_space.specs.declared.goals.GoalKind.{GoalKind}
@@ -77,15 +77,16 @@ module _ (q : Query) (few_lists : length (lists_of q) ≤ 60) (few_orders : leng
   list_in_range (Some list) numbered = omega (arith, few_lists, numbered)
 
   -- a request that has numbers has a code
-  pub request_in_range : (wanted : Request) → IsNumberedRequest q wanted → requests.IsInRange wanted
+  pub request_in_range : (wanted : Request) → IsNumberedRequest q wanted → requests.IsRequestInRange wanted
   request_in_range wanted numbered = record {
     list = list_in_range (list_asked wanted.dist) numbered.dist;
     numbered = omega (arith, few_orders, numbered.order);
   }
 
-  module _ (known_group : (g : KeyParts) → IsGroup q g → keys.IsInRange g) (packed : (e : ExprParts) → IsCandidate q e
+  module _ (known_group : (g : KeyParts) → IsGroup q g → keys.IsGroupInRange g)
+      (packed : (e : ExprParts) → IsCandidate q e
       → IsPacked e) where
-    by_kind : (goal : GoalKind) → IsOfCandidate q goal → IsGoalOver q goal → IsInRange goal
+    by_kind : (goal : GoalKind) → IsOfCandidate q goal → IsGoalOver q goal → IsGoalInRange goal
     by_kind (Exp group) known over = known_group group known
     by_kind (ExpE e) known over = packed e known
     by_kind (Xf e rule) known over = packed e known
@@ -95,5 +96,5 @@ module _ (q : Query) (few_lists : length (lists_of q) ≤ 60) (few_orders : leng
     by_kind (OptE e wanted) known over = (packed (expr_of e) known, request_in_range wanted over.numbered)
 
     -- so a goal over the query has a word
-    pub goal_in_range : (goal : GoalKind) → IsGoalOver q goal → IsInRange goal
+    pub goal_in_range : (goal : GoalKind) → IsGoalOver q goal → IsGoalInRange goal
     goal_in_range goal over = by_kind goal over.of_candidate over

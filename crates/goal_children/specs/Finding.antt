@@ -9,7 +9,7 @@ use Rattle.query_core.specs.declared.expressions.ExprParts.{ExprParts}
 use Rattle.query_core.specs.declared.expressions.PhysicalExpr.{PhysicalExpr}
 use Rattle.xform_rules.specs.Rules.{binds}
 use Rattle.xform_rules.specs.declared.rules.Rule.{Rule}
-use Rattle.goal_space.specs.Words.{goal_word, IsInRange}
+use Rattle.goal_space.specs.Words.{goal_word, IsGoalInRange}
 use Rattle.goal_space.specs.Children.{IsLeft, IsLogicalIn, CanServe, IsListedIn}
 use Rattle.goal_space.specs.Phases.{phase_goal_of_expr}
 use Rattle.goal_space.specs.declared.goals.GoalKind.{GoalKind}
@@ -23,7 +23,7 @@ use Rattle.goal_children.specs.declared.jobs.MemberJob.TheVariants.{Transform, S
 -- the goal is of the kind, and of those whose words aren't below the bound it has the least word
 pub record IsLeastFrom (Kind : GoalKind → Type 0) (bound : ℕ) (goal : GoalKind) : Type 0 where
   pub is : Kind goal
-  pub in_range : IsInRange goal
+  pub in_range : IsGoalInRange goal
   pub from : bound ≤ goal_word goal
   pub least : (other : GoalKind) → Kind other → bound ≤ goal_word other → goal_word goal ≤ goal_word other
 
@@ -47,7 +47,7 @@ AreBehind Kind goals = (k l : GoalKind) → Contains goals k → Kind l → goal
 -- the goals of the kind came to the list, and no others
 pub record Collects (Kind : GoalKind → Type 0) (old new : List GoalKind) : Type 0 where
   pub exact : (goal : GoalKind) → Contains new goal ↔ (Contains old goal ⊎ Kind goal)
-  pub in_range : All IsInRange old → All IsInRange new
+  pub in_range : All IsGoalInRange old → All IsGoalInRange new
 
 -- they came behind all others, so words that rose rise on where those of the kind are greater
 pub record AppendsGoals (Kind : GoalKind → Type 0) (old new : List GoalKind) : Type 0 where

@@ -2,7 +2,7 @@
 use Rattle.std.specs.Prelude.{ℕ, ◌≡◌, ◌<◌, ◌≤◌, List, All, get_or, length, map}
 use Rattle.std.specs.List.{Contains}
 use Rattle.std.specs.List.Sorted.{IsStrictlyIncreasing}
-use Rattle.goal_space.specs.Words.{goal_word, HasWord, IsInRange}
+use Rattle.goal_space.specs.Words.{goal_word, HasWord, IsGoalInRange}
 use Rattle.goal_space.specs.declared.goals.GoalKind.{GoalKind}
 
 -- the words of the goals rise
@@ -16,7 +16,7 @@ IsWordOfGoal word = (goal : GoalKind) × HasWord goal word
 -- the words are those of these goals, whose parts fit
 pub record HaveGoalWords (words : List ℕ) (goals : List GoalKind) : Type 0 where
   pub numbers : map goal_word goals ≡ words
-  pub in_range : All IsInRange goals
+  pub in_range : All IsGoalInRange goals
 
 -- the word is that of one of the goals
 abbrev pub HaveWord : List GoalKind → ℕ → Type 0

@@ -3,7 +3,7 @@ use Rattle.std.specs.Prelude.{ℕ, ◌≡◌, ◌≤◌, ◌↔◌, List, length
 use Rattle.query_core.specs.declared.query.Query.{Query}
 use Rattle.xform_rules.specs.Closure.{IsMember, IsClosureOf}
 use Rattle.request_props.specs.Numbered.{lists_of, orders_of}
-use Rattle.goal_space.specs.Words.{IsInRange}
+use Rattle.goal_space.specs.Words.{IsGoalInRange}
 use Rattle.goal_space.specs.Children.{IsChildGoal}
 use Rattle.goal_space.specs.Goals.{IsGoal}
 use Rattle.goal_space.specs.declared.goals.GoalKind.{GoalKind}
@@ -18,7 +18,7 @@ ChildrenAreOver q = (words : List ℕ) (goal child : GoalKind) → IsGoalOver q 
 -- where a query has at most 60 hashed lists and orders, goals over it have words
 abbrev pub GoalsOverHaveWords : Query → Type 0
 GoalsOverHaveWords q = length (lists_of q) ≤ 60 → length (orders_of q) ≤ 60 → (goal : GoalKind) → IsGoalOver q goal
-    → IsInRange goal
+    → IsGoalInRange goal
 
 -- and the children of one, ascending by their words, are one list
 abbrev pub ChildrenAreOne : Query → Type 0

@@ -8,7 +8,7 @@ use Rattle.query_core.specs.declared.words.GoalParts.{GoalParts}
 use Rattle.query_core.specs.declared.words.GoalParts.TheVariants as parts
 use Rattle.query_core.specs.declared.expressions.ExprParts.{ExprParts}
 use Rattle.query_core.specs.declared.expressions.PhysicalExpr.{PhysicalExpr}
-use Rattle.request_props.specs.Requests.{code_of, IsInRange}
+use Rattle.request_props.specs.Requests.{code_of, IsRequestInRange}
 use Rattle.request_props.specs.declared.request.Request.{Request}
 use Rattle.plan_tree.specs.Alternatives.{HasAlternative}
 use Rattle.goal_space.specs.declared.goals.GoalKind.{GoalKind}
@@ -28,7 +28,7 @@ HasNumberedJob q (Serve wanted) = IsNumberedRequest q wanted
 -- the request of the job, if it has one, has a code
 abbrev pub IsJobInRange : MemberJob → Type 0
 IsJobInRange (Transform phase) = ⊤
-IsJobInRange (Serve wanted) = IsInRange wanted
+IsJobInRange (Serve wanted) = IsRequestInRange wanted
 
 -- the goal of the expression of this word, as numbers
 abbrev pub parts_at : MemberJob → ℕ → GoalParts

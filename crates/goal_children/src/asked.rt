@@ -7,7 +7,7 @@ ghost use Rattle.query_core.specs.Keys as keys;
 ghost use Rattle.query_core.specs.Expressions.{AreInRange};
 ghost use Rattle.request_props.specs.Requests as requests;
 ghost use Rattle.plan_space.specs.Alternatives.{IsAlternative};
-ghost use Rattle.goal_space.specs.Words.{IsInRange};
+ghost use Rattle.goal_space.specs.Words.{IsGoalInRange};
 ghost use Rattle.goal_children.specs.Over.{IsGoalOver};
 ghost use Rattle.goal_children.specs.Memo.{IsListedMemo};
 ghost use Rattle.goal_children.specs.Choices.{IsOfAlternatives, IsOfAsked, IsOfEnforcer, IsOfMode, IsOfRequest};
@@ -32,7 +32,7 @@ pub fn insert_asked(
 ) -> Result<(), AllocError>
     requires memo { IsListedMemo memo }
     requires goal { IsGoalOver memo.query.now (GoalKind.OptE e wanted) }
-    requires listed { All IsInRange goals.old.items }
+    requires listed { All IsGoalInRange goals.old.items }
     ensures ok { OnOk result
         (InsertsGoals (IsOfAlternatives memo.entry.query.now e wanted) goals.old.items goals.new.items) }
 {
@@ -58,7 +58,7 @@ fn insert_in_mode(
     requires memo { IsListedMemo memo }
     requires goal { IsGoalOver memo.query.now (GoalKind.OptE e wanted) }
     requires alternative { IsAlternative memo.query.now e wanted mode line }
-    requires listed { All IsInRange goals.old.items }
+    requires listed { All IsGoalInRange goals.old.items }
     ensures ok { OnOk result
         (InsertsGoals (IsOfMode memo.entry.query.now e wanted mode) goals.old.items goals.new.items) }
 {
@@ -77,9 +77,9 @@ fn insert_wished(
     goals: &mut Vec<GoalKind>,
 ) -> Result<(), AllocError>
     requires children { AreInRange children }
-    requires first { IfSome first requests.IsInRange }
-    requires second { IfSome second requests.IsInRange }
-    requires listed { All IsInRange goals.old.items }
+    requires first { IfSome first requests.IsRequestInRange }
+    requires second { IfSome second requests.IsRequestInRange }
+    requires listed { All IsGoalInRange goals.old.items }
     ensures ok { OnOk result
         (InsertsGoals (IsOfAsked children first second) goals.old.items goals.new.items) }
 {
@@ -100,9 +100,9 @@ fn insert_request(
     wanted: Option<Request>,
     goals: &mut Vec<GoalKind>,
 ) -> Result<(), AllocError>
-    requires group { keys.IsInRange group }
-    requires wanted { IfSome wanted requests.IsInRange }
-    requires listed { All IsInRange goals.old.items }
+    requires group { keys.IsGroupInRange group }
+    requires wanted { IfSome wanted requests.IsRequestInRange }
+    requires listed { All IsGoalInRange goals.old.items }
     ensures ok { OnOk result (InsertsGoals (IsOfRequest group wanted) goals.old.items goals.new.items) }
 {
     match wanted {
@@ -120,7 +120,7 @@ pub fn insert_enforced(
 ) -> Result<(), AllocError>
     requires memo { IsListedMemo memo }
     requires goal { IsGoalOver memo.query.now (GoalKind.Opt group wanted) }
-    requires listed { All IsInRange goals.old.items }
+    requires listed { All IsGoalInRange goals.old.items }
     ensures ok { OnOk result
         (InsertsGoals (IsOfEnforcer memo.entry.query.now group wanted) goals.old.items goals.new.items) }
 {

@@ -7,8 +7,8 @@ ghost use Rattle.std.specs.List.Sorted.{IsStrictlyIncreasing};
 ghost use Rattle.query_core.specs.Keys.{IsGroup};
 ghost use Rattle.query_core.specs.Expressions.{IsCandidateWord, IsPacked};
 ghost use Rattle.request_props.specs.Numbered.{IsProps};
-ghost use Rattle.goal_space.specs.Words.{goal_word, IsInRange};
-ghost use Rattle.goal_space.specs.declared.goals.GoalKind.{GoalKind as AnyGoal};
+ghost use Rattle.goal_space.specs.Words.{goal_word, IsGoalInRange};
+ghost use Rattle.goal_space.specs.declared.goals.GoalKind.{GoalKind as AnyGoalKind};
 ghost use Rattle.goal_children.specs.Over.{IsGoalOver, IsGoalWordOver};
 ghost use Rattle.goal_children.specs.Memo.{IsListedMemo};
 ghost use Rattle.goal_children.specs.Children.{AreNoMore, IsChildIn, IsChildWordAt, IsLastChild, IsNextChild};
@@ -32,7 +32,7 @@ pub fn child(query: &Query, props: &Props, members: &[u64], goal: Goal, n: u32) 
     requires candidates { All (IsCandidateWord query.now) members.now }
     requires ascending { IsStrictlyIncreasing members.now }
     requires goal { IsGoalWordOver query.now goal.0 }
-    ensures { (k : AnyGoal) → IsGoalOver query.now k → goal_word k ≡ goal.0 →
+    ensures { (k : AnyGoalKind) → IsGoalOver query.now k → goal_word k ≡ goal.0 →
         MatchOption result (AreNoMore query.now members.now k n)
         (IsChildWordAt query.now members.now k n) }
 {
@@ -88,7 +88,7 @@ fn next_child(
         (IsLastChild query.now members.now goal after)
         (IsNextChild query.now members.now goal after) }
     ensures over { IfSome result (IsGoalOver query.now) }
-    ensures in_range { IfSome result IsInRange }
+    ensures in_range { IfSome result IsGoalInRange }
 {
     // For the proof: children are goals over the query too, and so have words.
     children_are_over_the_query();

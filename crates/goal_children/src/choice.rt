@@ -5,9 +5,9 @@ ghost use Rattle.std.specs.Prelude.{◌≡◌, ◌↔◌, ◌⊎◌, IfSome, Som
 ghost use Rattle.std.specs.Option.{option_map};
 ghost use Rattle.query_core.specs.Keys as keys;
 ghost use Rattle.query_core.specs.Expressions.{physical_children, AreInRange};
-ghost use Rattle.request_props.specs.Requests.{IsInRange};
+ghost use Rattle.request_props.specs.Requests.{IsRequestInRange};
 ghost use Rattle.plan_space.specs.Alternatives.{IsAlternative};
-ghost use Rattle.goal_space.specs.declared.goals.GoalKind.{GoalKind as AnyGoal};
+ghost use Rattle.goal_space.specs.declared.goals.GoalKind.{GoalKind as AnyGoalKind};
 ghost use Rattle.goal_children.specs.Over.{IsGoalOver};
 ghost use Rattle.goal_children.specs.Memo.{IsListedMemo};
 ghost use Rattle.goal_children.specs.Choices.{IsOfAlternatives, IsOfAsked, IsOfEnforcer, IsOfMode, IsOfRequest};
@@ -49,10 +49,10 @@ pub fn enforced_by(
 ) -> (Option<Request>, Option<Request>)
     requires memo { IsListedMemo memo }
     requires goal { IsGoalOver memo.query.now (GoalKind.Opt group wanted) }
-    ensures exact { (goal : AnyGoal) → IsOfEnforcer memo.entry.query.now group wanted goal
+    ensures exact { (goal : AnyGoalKind) → IsOfEnforcer memo.entry.query.now group wanted goal
         ↔ (IsOfRequest group result.0 goal ⊎ IsOfRequest group result.1 goal) }
-    ensures first { IfSome result.0 IsInRange }
-    ensures second { IfSome result.1 IsInRange }
+    ensures first { IfSome result.0 IsRequestInRange }
+    ensures second { IfSome result.1 IsRequestInRange }
 {
     // For the proof: groups have keys.
     groups_are_known();
@@ -127,10 +127,10 @@ pub fn asked_in_mode(
     requires memo { IsListedMemo memo }
     requires goal { IsGoalOver memo.query.now (GoalKind.OptE e wanted) }
     requires alternative { IsAlternative memo.query.now e wanted mode line }
-    ensures exact { (goal : AnyGoal) → IsOfMode memo.entry.query.now e wanted mode goal
+    ensures exact { (goal : AnyGoalKind) → IsOfMode memo.entry.query.now e wanted mode goal
         ↔ IsOfAsked (physical_children e.operator) result.0 result.1 goal }
-    ensures first { IfSome result.0 IsInRange }
-    ensures second { IfSome result.1 IsInRange }
+    ensures first { IfSome result.0 IsRequestInRange }
+    ensures second { IfSome result.1 IsRequestInRange }
 {
     // For the proof: what is asked of children has numbers, and an expression has few modes.
     what_is_asked_fits();
@@ -157,8 +157,8 @@ fn wished_goal_from(
     bound: u64,
 ) -> Option<GoalKind>
     requires children { AreInRange children }
-    requires first { IfSome first IsInRange }
-    requires second { IfSome second IsInRange }
+    requires first { IfSome first IsRequestInRange }
+    requires second { IfSome second IsRequestInRange }
     ensures { FindsFrom (IsOfAsked children first second) bound result }
 {
     match children {
@@ -173,8 +173,8 @@ fn wished_goal_from(
 
 // The goal of the group for what is asked of it, if something is.
 fn asked_of_group(group: KeyParts, wanted: Option<Request>, bound: u64) -> Option<GoalKind>
-    requires group { keys.IsInRange group }
-    requires wanted { IfSome wanted IsInRange }
+    requires group { keys.IsGroupInRange group }
+    requires wanted { IfSome wanted IsRequestInRange }
     ensures { FindsFrom (IsOfRequest group wanted) bound result }
 {
     match wanted {

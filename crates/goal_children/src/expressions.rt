@@ -4,7 +4,7 @@
 ghost use Rattle.std.specs.Prelude.{◌≡◌, ◌↔◌, IsTrue, OnOk};
 ghost use Rattle.std.specs.List.{All};
 ghost use Rattle.query_core.specs.Expressions.{children_of, AreInRange, IsCandidate, IsPacked};
-ghost use Rattle.goal_space.specs.Words.{IsInRange};
+ghost use Rattle.goal_space.specs.Words.{IsGoalInRange};
 ghost use Rattle.goal_space.specs.Phases.{IsOfExpression, IsOfGroups, IsOfRule, IsRuleAt};
 ghost use Rattle.goal_children.specs.Finding.{FindsFrom, InsertsGoals, IsOfLeft, IsOfLeftGroup};
 
@@ -84,7 +84,7 @@ pub fn insert_transformed(
     goals: &mut Vec<GoalKind>,
 ) -> Result<(), AllocError>
     requires packed { IsPacked e }
-    requires listed { All IsInRange goals.old.items }
+    requires listed { All IsGoalInRange goals.old.items }
     ensures ok { OnOk result
         (InsertsGoals (IsOfExpression query.now phase e) goals.old.items goals.new.items) }
 {
@@ -100,7 +100,7 @@ fn insert_groups(
     goals: &mut Vec<GoalKind>,
 ) -> Result<(), AllocError>
     requires children { AreInRange children }
-    requires listed { All IsInRange goals.old.items }
+    requires listed { All IsGoalInRange goals.old.items }
     ensures ok { OnOk result (InsertsGoals (IsOfGroups phase children) goals.old.items goals.new.items) }
 {
     match children {
@@ -122,7 +122,7 @@ fn insert_rules(
     goals: &mut Vec<GoalKind>,
 ) -> Result<(), AllocError>
     requires packed { IsPacked e }
-    requires listed { All IsInRange goals.old.items }
+    requires listed { All IsGoalInRange goals.old.items }
     ensures ok { OnOk result
         (InsertsGoals (IsRuleAt query.now phase e) goals.old.items goals.new.items) }
 {
@@ -142,7 +142,7 @@ fn insert_rule(
     goals: &mut Vec<GoalKind>,
 ) -> Result<(), AllocError>
     requires packed { IsPacked e }
-    requires listed { All IsInRange goals.old.items }
+    requires listed { All IsGoalInRange goals.old.items }
     ensures ok { OnOk result
         (InsertsGoals (IsOfRule query.now phase e rule) goals.old.items goals.new.items) }
 {
@@ -156,7 +156,7 @@ fn insert_rule(
 /// Adds the goal of the left group, where the rule binds a member of it.
 pub fn insert_left(e: ExprParts, rule: Rule, goals: &mut Vec<GoalKind>) -> Result<(), AllocError>
     requires children { AreInRange (children_of e.operator) }
-    requires listed { All IsInRange goals.old.items }
+    requires listed { All IsGoalInRange goals.old.items }
     ensures ok { OnOk result
         (InsertsGoals (IsOfLeft e rule (children_of e.operator)) goals.old.items goals.new.items) }
 {
@@ -170,7 +170,7 @@ pub fn insert_left(e: ExprParts, rule: Rule, goals: &mut Vec<GoalKind>) -> Resul
 // Adds the goal of the left group.
 fn insert_left_group(children: Children, goals: &mut Vec<GoalKind>) -> Result<(), AllocError>
     requires children { AreInRange children }
-    requires listed { All IsInRange goals.old.items }
+    requires listed { All IsGoalInRange goals.old.items }
     ensures ok { OnOk result (InsertsGoals (IsOfLeftGroup children) goals.old.items goals.new.items) }
 {
     match children {

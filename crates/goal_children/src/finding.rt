@@ -2,8 +2,8 @@
 #![tactic(auto)]
 
 ghost use Rattle.std.specs.Prelude.{◌≡◌, ◌≤◌, ◌↔◌, IfSome, MatchOption};
-ghost use Rattle.goal_space.specs.declared.goals.GoalKind.{GoalKind as AnyGoal};
-ghost use Rattle.goal_space.specs.Words.{goal_word, HasWord, IsInRange};
+ghost use Rattle.goal_space.specs.declared.goals.GoalKind.{GoalKind as AnyGoalKind};
+ghost use Rattle.goal_space.specs.Words.{goal_word, HasWord, IsGoalInRange};
 ghost use Rattle.goal_children.specs.Children.{IsBehind};
 ghost use Rattle.goal_children.specs.Finding.{sooner_of, FindsFrom};
 
@@ -12,8 +12,8 @@ use query_core::Goal;
 
 /// The goal that the word is known to have.
 pub fn known_goal(word: Goal) -> GoalKind
-    requires { (k : AnyGoal) × HasWord k word.0 }
-    ensures { (k : AnyGoal) → HasWord k word.0 → k ≡ result }
+    requires { (k : AnyGoalKind) × HasWord k word.0 }
+    ensures { (k : AnyGoalKind) → HasWord k word.0 → k ≡ result }
 {
     match GoalKind::of(word) {
         Some(goal) => goal,
@@ -23,7 +23,7 @@ pub fn known_goal(word: Goal) -> GoalKind
 
 /// The goal, if its word isn't below the bound.
 pub fn goal_from(goal: GoalKind, bound: u64) -> Option<GoalKind>
-    requires { IsInRange goal }
+    requires { IsGoalInRange goal }
     ensures { FindsFrom (λ k. k ≡ goal) bound result }
 {
     if bound <= goal.word().0 {
@@ -35,8 +35,8 @@ pub fn goal_from(goal: GoalKind, bound: u64) -> Option<GoalKind>
 
 /// The one of the two whose word is less, if both are there.
 pub fn sooner(a: Option<GoalKind>, b: Option<GoalKind>) -> Option<GoalKind>
-    requires a { IfSome a IsInRange }
-    requires b { IfSome b IsInRange }
+    requires a { IfSome a IsGoalInRange }
+    requires b { IfSome b IsGoalInRange }
     ensures { result ≡ sooner_of a b }
 {
     match (a, b) {
@@ -49,8 +49,8 @@ pub fn sooner(a: Option<GoalKind>, b: Option<GoalKind>) -> Option<GoalKind>
 /// The least word behind that of a goal, if a word of 64 bits is.
 pub fn bound_behind(before: Option<Goal>) -> Option<u64>
     ensures { MatchOption result
-        ((goal : AnyGoal) → IsInRange goal → IsBehind before goal → ⊥)
-        (λ bound. (goal : AnyGoal) → (bound ≤ goal_word goal) ↔ IsBehind before goal) }
+        ((goal : AnyGoalKind) → IsGoalInRange goal → IsBehind before goal → ⊥)
+        (λ bound. (goal : AnyGoalKind) → (bound ≤ goal_word goal) ↔ IsBehind before goal) }
 {
     // For the proof: words have 64 bits.
     goal_kinds_are_one();

@@ -4,7 +4,7 @@
 ghost use Rattle.std.specs.Prelude.{ℕ, List, OnOk};
 ghost use Rattle.std.specs.List.{All};
 ghost use Rattle.std.specs.List.Sorted.{IsStrictlyIncreasing};
-ghost use Rattle.query_core.specs.Keys.{IsInRange};
+ghost use Rattle.query_core.specs.Keys.{IsGroupInRange};
 ghost use Rattle.query_core.specs.Expressions.{IsWord};
 ghost use Rattle.goal_children.specs.GroupMembers.{AreExpressionsOf, AreHeldFor, AreOfWords};
 
@@ -39,7 +39,7 @@ pub fn hold_members(
 ) -> Result<(), AllocError>
     requires words { All IsWord words.now }
     requires ascending { IsStrictlyIncreasing words.now }
-    requires in_range { IsInRange group }
+    requires in_range { IsGroupInRange group }
     requires held { AreHeldFor words.now held.old }
     ensures ok { OnOk result (AreExpressionsOf words.now group held.new.members.items) }
     ensures held { OnOk result (AreHeldFor words.now held.new) }

@@ -5,7 +5,8 @@ ghost use Rattle.std.specs.Prelude.{◌≡◌, ℕ, List};
 ghost use Rattle.query_core.specs.declared.query.Query.{Query};
 ghost use Rattle.goal_children.specs.Listed.{AreGoalsOf};
 ghost use Rattle.goal_children.specs.Over.{AreGoalWords};
-ghost use Rattle.goal_children.specs.Laws.{ChildrenAreOne, ChildrenAreOver, ClosureHasChildren, GoalsAreOver, GoalsOverHaveWords};
+ghost use Rattle.goal_children.specs.Laws.{ChildrenAreOne, ChildrenAreOver, ClosureHasChildren, GoalsAreOver};
+ghost use Rattle.goal_children.specs.Laws.{GoalsOverHaveWords};
 
 use goal_space::{goal_kinds_are_one, goals_are_known};
 use plan_space::what_is_asked_fits;

@@ -7,7 +7,7 @@ ghost use Rattle.std.specs.List.Sorted.{IsStrictlyIncreasing};
 ghost use Rattle.query_core.specs.Keys.{IsGroup};
 ghost use Rattle.query_core.specs.Expressions.{IsCandidateWord};
 ghost use Rattle.request_props.specs.Numbered.{IsProps};
-ghost use Rattle.goal_space.specs.Words.{IsInRange};
+ghost use Rattle.goal_space.specs.Words.{IsGoalInRange};
 ghost use Rattle.goal_children.specs.Over.{IsGoalOver};
 ghost use Rattle.goal_children.specs.Memo.{IsListedMemo};
 ghost use Rattle.goal_children.specs.Children.{AreChildren, IsChildIn};
@@ -64,7 +64,7 @@ fn add_children(
     requires memo { IsListedMemo memo }
     requires goal { IsGoalOver memo.query.now goal }
     requires held { AreHeldFor memo.members.now held.old }
-    requires listed { All IsInRange goals.old.items }
+    requires listed { All IsGoalInRange goals.old.items }
     ensures ok { OnOk result (AppendsGoals (IsChildIn memo.entry.query.now memo.entry.members.now goal)
         goals.old.items goals.new.items) }
     ensures held { OnOk result (AreHeldFor memo.entry.members.now held.new) }
@@ -122,7 +122,7 @@ fn add_chosen(
     requires memo { IsListedMemo memo }
     requires goal { IsGoalOver memo.query.now (GoalKind.Opt group wanted) }
     requires held { AreHeldFor memo.members.now held.old }
-    requires listed { All IsInRange goals.old.items }
+    requires listed { All IsGoalInRange goals.old.items }
     ensures ok { OnOk result (AppendsGoals
         (IsChildIn memo.entry.query.now memo.entry.members.now (GoalKind.Opt group wanted))
         goals.old.items goals.new.items) }
@@ -147,7 +147,7 @@ fn add_beside(
 ) -> Result<(), AllocError>
     requires memo { IsListedMemo memo }
     requires goal { IsGoalOver memo.query.now (GoalKind.Opt group wanted) }
-    requires listed { All IsInRange goals.old.items }
+    requires listed { All IsGoalInRange goals.old.items }
     ensures ok { OnOk result (AppendsGoals (IsBesideMembers memo.entry.query.now group wanted)
         goals.old.items goals.new.items) }
 {

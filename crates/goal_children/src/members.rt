@@ -1,11 +1,12 @@
 //! The goals of the members of a group, in the order of words.
 #![tactic(auto)]
 
-ghost use Rattle.std.specs.Prelude.{◌≡◌, ◌<◌, ◌≤◌, ◌^◌, ◌↔◌, ℕ, IfSome, IsTrue, MatchOption, OnOk, Some, length, map, slice_index};
+ghost use Rattle.std.specs.Prelude.{◌≡◌, ◌<◌, ◌≤◌, ◌^◌, ◌↔◌, ℕ, IfSome, IsTrue, MatchOption, OnOk, Some, length, map};
+ghost use Rattle.std.specs.Prelude.{slice_index};
 ghost use Rattle.std.specs.List.{All};
 ghost use Rattle.std.specs.List.Sorted.{IsStrictlyIncreasing};
-ghost use Rattle.query_core.specs.declared.expressions.ExprParts.{ExprParts as AnyExpr};
-ghost use Rattle.query_core.specs.declared.expressions.PhysicalExpr.{PhysicalExpr as AnyPhysical};
+ghost use Rattle.query_core.specs.declared.expressions.ExprParts.{ExprParts as AnyExprParts};
+ghost use Rattle.query_core.specs.declared.expressions.PhysicalExpr.{PhysicalExpr as AnyPhysicalExpr};
 ghost use Rattle.query_core.specs.Keys.{IsGroup};
 ghost use Rattle.query_core.specs.Goals.{FitsExpr};
 ghost use Rattle.query_core.specs.Expressions.{expr_of, word_of, IsCandidate, IsCandidateWord};
@@ -14,9 +15,10 @@ ghost use Rattle.plan_tree.specs.Alternatives.{HasAlternative};
 ghost use Rattle.goal_children.specs.Finding.{AppendsGoals, FindsFrom, IsOfMembers};
 ghost use Rattle.goal_children.specs.GroupMembers.{AreHeldFor};
 ghost use Rattle.goal_children.specs.Memo.{IsListedMemo};
-ghost use Rattle.goal_space.specs.Words.{IsInRange};
-ghost use Rattle.goal_space.specs.declared.goals.GoalKind.{GoalKind as AnyGoal};
-ghost use Rattle.goal_children.specs.MemberJobs.{word_at, HasNumberedJob, HaveNoGoals, IsFirstGoal, IsGoalAmong, IsGoalOf, IsGoalOfWord, IsJobInRange, IsServed, IsTransformed};
+ghost use Rattle.goal_space.specs.Words.{IsGoalInRange};
+ghost use Rattle.goal_space.specs.declared.goals.GoalKind.{GoalKind as AnyGoalKind};
+ghost use Rattle.goal_children.specs.MemberJobs.{word_at, HasNumberedJob, HaveNoGoals, IsFirstGoal, IsGoalAmong};
+ghost use Rattle.goal_children.specs.MemberJobs.{IsGoalOf, IsGoalOfWord, IsJobInRange, IsServed, IsTransformed};
 
 use crate::group_members::{GroupMembers, hold_members};
 use crate::jobs::MemberJob;
@@ -124,7 +126,7 @@ fn push_goal_of(
 
 // Adds the goal that was found, if one was.
 fn push_found(found: Option<GoalKind>, goals: &mut Vec<GoalKind>) -> Result<(), AllocError>
-    requires { IfSome found IsInRange }
+    requires { IfSome found IsGoalInRange }
     ensures ok { OnOk result
         (AppendsGoals (λ k. found ≡ Some k) goals.old.items goals.new.items) }
 {
@@ -199,7 +201,7 @@ impl MemberJob {
         requires candidate { IsCandidate memo.query.now e }
         requires numbered { HasNumberedJob memo.query.now self }
         ensures { MatchOption result
-            ((goal : AnyGoal) → IsGoalOf memo.entry.query.now self e goal → ⊥)
+            ((goal : AnyGoalKind) → IsGoalOf memo.entry.query.now self e goal → ⊥)
             (IsGoalOf memo.entry.query.now self e) }
     {
         match self {
@@ -212,7 +214,7 @@ impl MemberJob {
 // The goal of a logical expression.
 fn transform(phase: Phase, e: ExprParts) -> Option<GoalKind>
     ensures { MatchOption result
-        ((goal : AnyGoal) → IsTransformed phase e goal → ⊥)
+        ((goal : AnyGoalKind) → IsTransformed phase e goal → ⊥)
         (IsTransformed phase e) }
 {
     if e.operator.is_logical() {
@@ -228,7 +230,7 @@ fn serve(memo: Memo<'_>, e: ExprParts, wanted: Request) -> Option<GoalKind>
     requires candidate { IsCandidate memo.query.now e }
     requires numbered { IsNumbered memo.query.now wanted.order }
     ensures { MatchOption result
-        ((goal : AnyGoal) → IsServed memo.entry.query.now wanted e goal → ⊥)
+        ((goal : AnyGoalKind) → IsServed memo.entry.query.now wanted e goal → ⊥)
         (IsServed memo.entry.query.now wanted e) }
 {
     match e.as_physical() {

@@ -3,7 +3,7 @@
 
 ghost use Rattle.std.specs.Prelude.{◌≡◌, MatchOption, OnOk};
 ghost use Rattle.std.specs.List.{All};
-ghost use Rattle.goal_space.specs.Words.{IsInRange};
+ghost use Rattle.goal_space.specs.Words.{IsGoalInRange};
 ghost use Rattle.goal_children.specs.Finding.{InsertsGoals};
 ghost use Rattle.goal_children.specs.GoalLists.{HaveGoalWords, HaveWord, IsPlaceFor, IsWordOfGoal};
 
@@ -14,8 +14,8 @@ use std::alloc::AllocError;
 
 /// Adds the goal at its place, unless it is there.
 pub fn insert_goal(goal: GoalKind, goals: &mut Vec<GoalKind>) -> Result<(), AllocError>
-    requires in_range { IsInRange goal }
-    requires listed { All IsInRange goals.old.items }
+    requires in_range { IsGoalInRange goal }
+    requires listed { All IsGoalInRange goals.old.items }
     ensures ok { OnOk result (InsertsGoals (λ k. k ≡ goal) goals.old.items goals.new.items) }
 {
     // For the proof: a word is that of one goal.
@@ -31,7 +31,7 @@ pub fn insert_goal(goal: GoalKind, goals: &mut Vec<GoalKind>) -> Result<(), Allo
 
 // The place of a goal of this word, if none of the goals has it. Mostly it is near the end.
 fn place_for(goals: &[GoalKind], word: u64) -> Option<usize>
-    requires { All IsInRange goals.now }
+    requires { All IsGoalInRange goals.now }
     ensures { MatchOption result (HaveWord goals.now word) (IsPlaceFor goals.now word) }
 {
     let mut place = goals.len();

@@ -5,7 +5,7 @@ use Rattle.query_core.specs.Goals.{FitsExpr}
 use Rattle.query_core.specs.declared.query.Query.{Query}
 use Rattle.query_core.specs.declared.expressions.ExprParts.{ExprParts}
 use Rattle.xform_rules.specs.Closure.{IsMember}
-use Rattle.goal_space.specs.Words.{goal_word, IsInRange}
+use Rattle.goal_space.specs.Words.{goal_word, IsGoalInRange}
 use Rattle.goal_space.specs.Children.{IsChildGoal}
 use Rattle.goal_space.specs.Goals.{IsGoal}
 use Rattle.goal_space.specs.Asked.{AsksFor}
@@ -31,12 +31,12 @@ entries_members q one_expr small packed candidates e known (inr (goal, names)) =
 
 -- where words are those of one goal
 module _ (q : Query) (
-    one_goal : (k l : GoalKind) → IsInRange k → IsInRange l → goal_word k ≡ goal_word l → k ≡ l
+    one_goal : (k l : GoalKind) → IsGoalInRange k → IsGoalInRange l → goal_word k ≡ goal_word l → k ≡ l
     ) (
-    in_range : (goal : GoalKind) → IsGoal q goal → IsInRange goal
+    in_range : (goal : GoalKind) → IsGoal q goal → IsGoalInRange goal
     ) (
     small_member : (e : ExprParts) → IsMember q e → FitsExpr (word_of e)
-    ) (goal : GoalKind) (known : IsInRange goal) where
+    ) (goal : GoalKind) (known : IsGoalInRange goal) where
   named : (other : GoalKind) → NamesGoal q (goal_word goal) other → other ≡ goal
   named other names = one_goal other goal (in_range other names.is_goal) known names.number
 

@@ -6,7 +6,7 @@ use Rattle.request_props.specs.declared.request.Request.{Request}
 use Rattle.best_answers.specs.Nodes.{Nodes, modes_of, all_nodes}
 use Rattle.best_answers.specs.Best.{IsBest}
 use Rattle.best_answers.specs.declared.best.Best.{Best}
-use Rattle.goal_space.specs.Words.{goal_word, IsInRange}
+use Rattle.goal_space.specs.Words.{goal_word, IsGoalInRange}
 use Rattle.goal_space.specs.Goals.{IsGoal}
 use Rattle.goal_space.specs.Answers.{IsAnswerTo}
 use Rattle.goal_space.specs.declared.goals.GoalKind.{GoalKind}
@@ -36,8 +36,8 @@ module _ (q : Query) (
   answer_one (OptE e wanted) answer other is other_is = one e.group wanted (modes_of e) answer other is other_is
 
   -- goals of one word are one, so their answers are
-  pub answers_one : ((goal : GoalKind) → IsGoal q goal → IsInRange goal)
-      → ((k l : GoalKind) → IsInRange k → IsInRange l → goal_word k ≡ goal_word l → k ≡ l) → AnswersAreOne q
+  pub answers_one : ((goal : GoalKind) → IsGoal q goal → IsGoalInRange goal)
+      → ((k l : GoalKind) → IsGoalInRange k → IsGoalInRange l → goal_word k ≡ goal_word l → k ≡ l) → AnswersAreOne q
   answers_one in_range one_word word cost node other_cost other_node is other =
       let same = one_word other.goal is.goal (in_range other.goal other.names.is_goal)
       (in_range is.goal is.names.is_goal) (other.names.number ∙ sym is.names.number) in

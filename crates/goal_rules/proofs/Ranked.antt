@@ -20,7 +20,7 @@ use Rattle.plan_space.specs.declared.nodes.Motion.{Motion}
 use Rattle.plan_space.specs.Enforcers.{motion_to, motions_in}
 use Rattle.plan_space.proofs.MotionLaws.{none_moves}
 use Rattle.xform_rules.specs.Counts.{table_count}
-use Rattle.goal_space.specs.Words.{parts_of, goal_word, IsInRange}
+use Rattle.goal_space.specs.Words.{parts_of, goal_word, IsGoalInRange}
 use Rattle.goal_space.specs.Ranks.{level_of, dist_rank, order_rank, request_rank, rank_of}
 use Rattle.goal_space.specs.declared.goals.GoalKind.{GoalKind}
 use Rattle.goal_space.specs.declared.goals.GoalKind.TheVariants.{Exp, ExpE, Xf, Imp, ImpE, Opt, OptE}
@@ -29,7 +29,7 @@ use Rattle.goal_rules.specs.WordRanks.{level_by, expr_level_by, dist_rank_by, ra
 -- ---- groups
 
 -- the level by a key is that of its group
-level_ranked : (g : KeyParts) → keys.IsInRange g → level_by (key_number g) ≡ level_of g
+level_ranked : (g : KeyParts) → keys.IsGroupInRange g → level_by (key_number g) ≡ level_of g
 level_ranked (groups.Get t) known = rw (lt-ltb t (key_number (groups.Filter 0)) (omega (arith, known)))
 level_ranked (groups.Filter t) known =
     let key = key_number (groups.Filter t) in
@@ -71,7 +71,7 @@ dist_ranked : (dist : Dist) → dist_rank_by (dist_code dist) ≡ dist_rank dist
 dist_ranked dist = dist_by dist (motion_to dist) refl
 
 -- the rank by a request's code is that of the request
-request_ranked : (wanted : Request) → requests.IsInRange wanted
+request_ranked : (wanted : Request) → requests.IsRequestInRange wanted
     → dist_rank_by (dist_field (code_of wanted)) + order_rank (order_field (code_of wanted)) ≡ request_rank wanted
 request_ranked wanted in_range =
     let few = in_range.numbered in
@@ -85,12 +85,13 @@ request_ranked wanted in_range =
 -- ---- goals
 
 -- where a goal has the fields of its word
-module _ (fields : (p : GoalParts) → FitsGoal p → goal_fields (goal_number p) ≡ p) (fits : (k : GoalKind) → IsInRange k
+module _ (fields : (p : GoalParts) → FitsGoal p → goal_fields (goal_number p) ≡ p)
+    (fits : (k : GoalKind) → IsGoalInRange k
     → FitsGoal (parts_of k)) where
-  by_parts : (k : GoalKind) → IsInRange k → rank_of_word (goal_word k) ≡ rank_of_parts (parts_of k)
+  by_parts : (k : GoalKind) → IsGoalInRange k → rank_of_word (goal_word k) ≡ rank_of_parts (parts_of k)
   by_parts k known = ap rank_of_parts (fields (parts_of k) (fits k known))
 
-  pub word_ranked : (k : GoalKind) → IsInRange k → rank_of_word (goal_word k) ≡ rank_of k
+  pub word_ranked : (k : GoalKind) → IsGoalInRange k → rank_of_word (goal_word k) ≡ rank_of k
   word_ranked (Exp group) known = by_parts (Exp group) known ∙ omega (arith, level_ranked group known)
   word_ranked (ExpE e) known = by_parts (ExpE e) known ∙ omega (arith, expr_ranked e known)
   word_ranked (Xf e rule) known = by_parts (Xf e rule) known ∙ omega (arith, expr_ranked e known)

@@ -8,7 +8,7 @@ use Rattle.xform_rules.specs.Closure.{IsMember}
 use Rattle.request_props.specs.Numbered.{IsProps}
 use Rattle.request_props.specs.declared.props.Props.{Props}
 use Rattle.best_answers.specs.declared.best.Best.{Best}
-use Rattle.goal_space.specs.Words.{goal_word, IsInRange}
+use Rattle.goal_space.specs.Words.{goal_word, IsGoalInRange}
 use Rattle.goal_space.specs.Children.{IsChildGoal}
 use Rattle.goal_space.specs.Goals.{IsGoal}
 use Rattle.goal_space.specs.Asked.{AsksFor}
@@ -34,7 +34,7 @@ pub record IsKnownWord (q : Query) (goal : GoalKind) : Type 0 where
 
 -- where a query has props, the word of a goal tells the goal
 abbrev pub GoalWordsAreKnown : Query → Type 0
-GoalWordsAreKnown q = (props : Props) → IsProps q props → (goal : GoalKind) → IsInRange goal → IsKnownWord q goal
+GoalWordsAreKnown q = (props : Props) → IsProps q props → (goal : GoalKind) → IsGoalInRange goal → IsKnownWord q goal
 
 -- and so the exploration of a group is known
 abbrev pub ExplorationsAreKnown : Query → Type 0

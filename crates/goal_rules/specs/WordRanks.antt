@@ -10,7 +10,7 @@ use Rattle.query_core.specs.declared.words.KeyParts.TheVariants.{Filter, Join, P
 use Rattle.xform_rules.specs.Counts.{table_count}
 use Rattle.request_props.specs.Requests.{dist_code, dist_field, order_field}
 use Rattle.request_props.specs.declared.request.Dist.TheVariants.{Spread}
-use Rattle.goal_space.specs.Words.{goal_word, IsInRange}
+use Rattle.goal_space.specs.Words.{goal_word, IsGoalInRange}
 use Rattle.goal_space.specs.Ranks.{order_rank, rank_of}
 use Rattle.goal_space.specs.Entries.{IsChildWord}
 use Rattle.goal_space.specs.declared.goals.GoalKind.{GoalKind}
@@ -53,4 +53,4 @@ WordRanksFall q = (word child : ℕ) → IsChildWord q word child → rank_of_wo
 
 -- the rank by a goal's word is the goal's rank
 abbrev pub WordRanksAreRanks : Type 0
-WordRanksAreRanks = (goal : GoalKind) → IsInRange goal → rank_of_word (goal_word goal) ≡ rank_of goal
+WordRanksAreRanks = (goal : GoalKind) → IsGoalInRange goal → rank_of_word (goal_word goal) ≡ rank_of goal

@@ -2,10 +2,10 @@
 #![tactic(auto)]
 
 ghost use Rattle.std.specs.Prelude.{◌≡◌, ◌≤◌, ◌+◌};
-ghost use Rattle.query_core.specs.Keys.{key_number, IsInRange};
-ghost use Rattle.request_props.specs.Requests.{dist_field as dist_in, order_field as order_in};
-ghost use Rattle.goal_space.specs.Ranks.{order_rank as rank_of_order};
-ghost use Rattle.goal_rules.specs.WordRanks.{dist_rank_by, expr_level_by, level_by, rank_of_word as rank_number};
+ghost use Rattle.query_core.specs.Keys.{key_number, IsGroupInRange};
+ghost use Rattle.request_props.specs.Requests.{dist_field as the_dist_field, order_field as the_order_field};
+ghost use Rattle.goal_space.specs.Ranks.{order_rank as the_order_rank};
+ghost use Rattle.goal_rules.specs.WordRanks.{dist_rank_by, expr_level_by, level_by, rank_of_word as the_rank_of_word};
 
 use goal_space::table_count;
 use query_core::{Expr, Goal, GoalParts, Key, KeyParts};
@@ -13,7 +13,7 @@ use request_props::{Dist, dist_code, dist_field, order_field};
 
 /// The rank of the goal of this word.
 pub fn rank_of_word(word: u64) -> u64
-    ensures { result ≡ rank_number word }
+    ensures { result ≡ the_rank_of_word word }
 {
     match Goal(word).fields() {
         GoalParts::Exp(key) => 100 * level(key) as u64 + 20,
@@ -30,21 +30,21 @@ pub fn rank_of_word(word: u64) -> u64
 fn level(key: Key) -> u32
     ensures { result ≡ level_by key.0 }
 {
-    if key.0 < number_of(KeyParts::Filter(0)) {
+    if key.0 < number_of_key(KeyParts::Filter(0)) {
         return 1;
     }
-    if key.0 < number_of(KeyParts::Join(0)) {
+    if key.0 < number_of_key(KeyParts::Join(0)) {
         return 2;
     }
-    if key.0 < number_of(KeyParts::Partial) {
-        return 1 + table_count(key.0 - number_of(KeyParts::Join(0))) as u32;
+    if key.0 < number_of_key(KeyParts::Partial) {
+        return 1 + table_count(key.0 - number_of_key(KeyParts::Join(0))) as u32;
     }
-    12 + (key.0 - number_of(KeyParts::Partial))
+    12 + (key.0 - number_of_key(KeyParts::Partial))
 }
 
 // The number of the key of this group.
-fn number_of(group: KeyParts) -> u32
-    requires { IsInRange group }
+fn number_of_key(group: KeyParts) -> u32
+    requires { IsGroupInRange group }
     ensures { result ≡ key_number group }
 {
     Key::make(group).0
@@ -59,7 +59,7 @@ fn expr_level(expr: Expr) -> u32
 
 // The rank of the request of this code.
 fn request_rank(code: u32) -> u64
-    ensures value { result ≡ dist_rank_by (dist_in code) + rank_of_order (order_in code) }
+    ensures value { result ≡ dist_rank_by (the_dist_field code) + the_order_rank (the_order_field code) }
     ensures few { result ≤ 2 }
 {
     let dist = if dist_field(code) == dist_code(Dist::Spread) {

@@ -13,17 +13,17 @@ use Rattle.query_core.specs.declared.expressions.ExprParts.{ExprParts}
 use Rattle.query_core.specs.declared.expressions.PhysicalExpr.{PhysicalExpr}
 use Rattle.request_props.specs.Requests.{code_of}
 use Rattle.request_props.specs.declared.request.Request.{Request}
-use Rattle.goal_space.specs.Words.{key_of, expr_word, parts_of, goal_word, HasWord, IsInRange}
+use Rattle.goal_space.specs.Words.{key_of, expr_word, parts_of, goal_word, HasWord, IsGoalInRange}
 use Rattle.goal_space.specs.declared.goals.GoalKind.{GoalKind}
 use Rattle.goal_space.specs.declared.goals.GoalKind.TheVariants.{Opt, OptE}
 
 -- the goal has these parts
 abbrev pub StandsFor : GoalParts → GoalKind → Type 0
-StandsFor p k = IsInRange k × (parts_of k ≡ p)
+StandsFor p k = IsGoalInRange k × (parts_of k ≡ p)
 
 -- no goal has these parts
 abbrev pub StandsForNone : GoalParts → Type 0
-StandsForNone p = (k : GoalKind) → IsInRange k → parts_of k ≡ p → ⊥
+StandsForNone p = (k : GoalKind) → IsGoalInRange k → parts_of k ≡ p → ⊥
 
 -- ---- parts
 
@@ -64,9 +64,9 @@ opt_e_parts p word code e wanted number code_is is =
 -- ---- words
 
 module _ (
-    one : (k l : GoalKind) → IsInRange k → IsInRange l → goal_word k ≡ goal_word l → k ≡ l
+    one : (k l : GoalKind) → IsGoalInRange k → IsGoalInRange l → goal_word k ≡ goal_word l → k ≡ l
     ) (
-    fits : (k : GoalKind) → IsInRange k → FitsGoal (parts_of k)
+    fits : (k : GoalKind) → IsGoalInRange k → FitsGoal (parts_of k)
     ) (
     one_parts : (p o : GoalParts) → FitsGoal p → FitsGoal o → goal_number p ≡ goal_number o → p ≡ o
     ) (word : ℕ) (p : GoalParts) (has : HasGoalWord word p) where

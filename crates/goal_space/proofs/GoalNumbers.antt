@@ -9,10 +9,10 @@ use Rattle.request_props.specs.declared.request.Request.{Request}
 
 -- ---- requests
 
-pub code_small : (wanted : Request) → requests.IsInRange wanted → FitsCode (code_of wanted)
+pub code_small : (wanted : Request) → requests.IsRequestInRange wanted → FitsCode (code_of wanted)
 code_small wanted in_range = omega (arith, dist_codes.code_small wanted.dist in_range.list, in_range.numbered)
 
-pub request_one : (wanted other : Request) → requests.IsInRange wanted → requests.IsInRange other
+pub request_one : (wanted other : Request) → requests.IsRequestInRange wanted → requests.IsRequestInRange other
     → code_of wanted ≡ code_of other → wanted ≡ other
 request_one wanted other in_range other_in_range same =
     let few = in_range.numbered in

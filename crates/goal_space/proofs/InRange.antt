@@ -12,7 +12,7 @@ use Rattle.request_props.specs.Requests as requests
 use Rattle.request_props.specs.Numbered.{lists_of, orders_of}
 use Rattle.request_props.specs.Fitting.{ListFits, Fits}
 use Rattle.request_props.specs.declared.request.Request.{Request}
-use Rattle.goal_space.specs.Words.{IsInRange}
+use Rattle.goal_space.specs.Words.{IsGoalInRange}
 use Rattle.goal_space.specs.OfMembers.{IsOfMember}
 use Rattle.goal_space.specs.Laws.{IsOfCandidate, HasFittingRequest}
 use Rattle.goal_space.specs.declared.goals.GoalKind.{GoalKind}
@@ -37,18 +37,18 @@ list_in_range q group (Some list) few fits = omega (arith, few, fits.numbered)
 
 pub request_in_range : (q : Query) (group : KeyParts) (wanted : Request) → length (lists_of q) ≤ 60
     → length (orders_of q) ≤ 60 → Fits q group wanted
-    → requests.IsInRange wanted
+    → requests.IsRequestInRange wanted
 request_in_range q group wanted few_lists few_orders fits = record {
   list = list_in_range q group (list_asked wanted.dist) few_lists fits.dist;
   numbered = omega (arith, few_orders, fits.numbered);
 }
 
 module _ (q : Query) (few_lists : length (lists_of q) ≤ 60) (few_orders : length (orders_of q) ≤ 60) (
-    known_group : (g : KeyParts) → IsGroup q g → keys.IsInRange g
+    known_group : (g : KeyParts) → IsGroup q g → keys.IsGroupInRange g
     ) (
     packed : (e : ExprParts) → IsCandidate q e → IsPacked e
     ) where
-  pub goal_in_range : (goal : GoalKind) → IsOfCandidate q goal → HasFittingRequest q goal → IsInRange goal
+  pub goal_in_range : (goal : GoalKind) → IsOfCandidate q goal → HasFittingRequest q goal → IsGoalInRange goal
   goal_in_range (Exp group) known fits = known_group group known
   goal_in_range (ExpE e) known fits = packed e known
   goal_in_range (Xf e rule) known fits = packed e known

@@ -13,7 +13,7 @@ use Rattle.query_core.specs.declared.expressions.ExprParts.{ExprParts}
 use Rattle.query_core.proofs.ExpressionLemmas.{expr_of_one}
 use Rattle.xform_rules.specs.Rules.{rule_number, RulesAreKnown}
 use Rattle.request_props.specs.Requests.{code_of}
-use Rattle.goal_space.specs.Words.{key_of, expr_word, parts_of, goal_word, IsInRange}
+use Rattle.goal_space.specs.Words.{key_of, expr_word, parts_of, goal_word, IsGoalInRange}
 use Rattle.goal_space.specs.declared.goals.GoalKind.{GoalKind}
 use Rattle.goal_space.specs.declared.goals.GoalKind.TheVariants.{Exp, ExpE, Xf, Imp, ImpE, Opt, OptE}
 use Rattle.goal_space.proofs.GoalNumbers.{code_small, request_one}
@@ -21,16 +21,16 @@ use Rattle.goal_space.proofs.GoalNumbers.{code_small, request_one}
 module _ (
     one_expr : (e f : ExprParts) → IsPacked e → IsPacked f → word_of e ≡ word_of f → e ≡ f
     ) (
-    one_group : (p g : KeyParts) → keys.IsInRange p → keys.IsInRange g → key_number p ≡ key_number g → p ≡ g
+    one_group : (p g : KeyParts) → keys.IsGroupInRange p → keys.IsGroupInRange g → key_number p ≡ key_number g → p ≡ g
     ) (
     small_expr : (e : ExprParts) → IsPacked e → FitsExpr (word_of e)
     ) (
-    small_group : (g : KeyParts) → keys.IsInRange g → key_number g < KEYS
+    small_group : (g : KeyParts) → keys.IsGroupInRange g → key_number g < KEYS
     ) (
     rules : RulesAreKnown
     ) where
   -- the parts of a goal fit
-  pub goal_fits : (k : GoalKind) → IsInRange k → FitsGoal (parts_of k)
+  pub goal_fits : (k : GoalKind) → IsGoalInRange k → FitsGoal (parts_of k)
   goal_fits (Exp group) known = omega (arith, small_group group known)
   goal_fits (ExpE e) known = small_expr e known
   goal_fits (Xf e rule) known = (small_expr e known, rules.some rule, omega (arith, rules.few rule))
@@ -39,14 +39,14 @@ module _ (
   goal_fits (Opt group wanted) known = (omega (arith, small_group group known.0), code_small wanted known.1)
   goal_fits (OptE e wanted) known = (small_expr (expr_of e) known.0, code_small wanted known.1)
 
-  key_same : (g h : KeyParts) → keys.IsInRange g → keys.IsInRange h → key_of g ≡ key_of h → g ≡ h
+  key_same : (g h : KeyParts) → keys.IsGroupInRange g → keys.IsGroupInRange h → key_of g ≡ key_of h → g ≡ h
   key_same g h known other same = one_group g h known other (ap (λ (k : Key). k.0) same)
 
   expr_same : (e f : ExprParts) → IsPacked e → IsPacked f → expr_word e ≡ expr_word f → e ≡ f
   expr_same e f known other same = one_expr e f known other (ap (λ (w : Expr). w.0) same)
 
   -- goals of the same parts are one
-  pub parts_one : (k l : GoalKind) → IsInRange k → IsInRange l → parts_of k ≡ parts_of l → k ≡ l
+  pub parts_one : (k l : GoalKind) → IsGoalInRange k → IsGoalInRange l → parts_of k ≡ parts_of l → k ≡ l
   parts_one (Exp g) (Exp h) known other same =
       let keys_same : key_of g ≡ key_of h = cc in
       ap Exp (key_same g h known other keys_same)
@@ -81,6 +81,6 @@ module _ (
 
   -- so are goals of the same word
   pub word_one : ((p o : GoalParts) → FitsGoal p → FitsGoal o → goal_number p ≡ goal_number o → p ≡ o)
-      → (k l : GoalKind) → IsInRange k → IsInRange l → goal_word k ≡ goal_word l → k ≡ l
+      → (k l : GoalKind) → IsGoalInRange k → IsGoalInRange l → goal_word k ≡ goal_word l → k ≡ l
   word_one one_parts k l known other same =
       parts_one k l known other (one_parts (parts_of k) (parts_of l) (goal_fits k known) (goal_fits l other) same)

@@ -8,7 +8,7 @@ use Rattle.xform_rules.specs.Closure.{IsMember}
 use Rattle.request_props.specs.Fitting.{Fits}
 use Rattle.request_props.specs.Numbered.{lists_of, orders_of}
 use Rattle.plan_tree.specs.declared.answers.Answered.{Answered}
-use Rattle.goal_space.specs.Words.{IsInRange}
+use Rattle.goal_space.specs.Words.{IsGoalInRange}
 use Rattle.goal_space.specs.Children.{IsChildGoal, IsListedIn}
 use Rattle.goal_space.specs.Goals.{IsGoal}
 use Rattle.goal_space.specs.Ranks.{rank_of}
@@ -63,7 +63,7 @@ GoalRequestsFit q = (goal : GoalKind) → IsGoal q goal → HasFittingRequest q 
 -- where a query has at most 60 hashed lists and orders, its goals have words
 abbrev pub GoalsHaveWords : Query → Type 0
 GoalsHaveWords q = length (lists_of q) ≤ 60 → length (orders_of q) ≤ 60 → (goal : GoalKind) → IsGoal q goal
-    → IsInRange goal
+    → IsGoalInRange goal
 
 -- what a goal of the query asks for are members
 abbrev pub AskedAreMembers : Query → Type 0

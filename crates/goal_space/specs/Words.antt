@@ -39,16 +39,16 @@ abbrev pub goal_word : GoalKind → ℕ
 goal_word goal = goal_number (parts_of goal)
 
 -- groups, expressions and requests are those that have a number
-abbrev pub IsInRange : GoalKind → Type 0
-IsInRange (Exp group) = keys.IsInRange group
-IsInRange (ExpE e) = IsPacked e
-IsInRange (Xf e rule) = IsPacked e
-IsInRange (Imp group) = keys.IsInRange group
-IsInRange (ImpE e) = IsPacked e
-IsInRange (Opt group wanted) = keys.IsInRange group × requests.IsInRange wanted
-IsInRange (OptE e wanted) = IsPacked (expr_of e) × requests.IsInRange wanted
+abbrev pub IsGoalInRange : GoalKind → Type 0
+IsGoalInRange (Exp group) = keys.IsGroupInRange group
+IsGoalInRange (ExpE e) = IsPacked e
+IsGoalInRange (Xf e rule) = IsPacked e
+IsGoalInRange (Imp group) = keys.IsGroupInRange group
+IsGoalInRange (ImpE e) = IsPacked e
+IsGoalInRange (Opt group wanted) = keys.IsGroupInRange group × requests.IsRequestInRange wanted
+IsGoalInRange (OptE e wanted) = IsPacked (expr_of e) × requests.IsRequestInRange wanted
 
 -- the number is the goal's word
 pub record HasWord (goal : GoalKind) (word : ℕ) : Type 0 where
-  pub in_range : IsInRange goal
+  pub in_range : IsGoalInRange goal
   pub number : goal_word goal ≡ word

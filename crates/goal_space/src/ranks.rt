@@ -2,10 +2,10 @@
 #![tactic(auto)]
 
 ghost use Rattle.std.specs.Prelude.{◌≡◌, ◌≤◌, ◌<◌};
-ghost use Rattle.query_core.specs.Sets.{bit as bit_of};
-ghost use Rattle.xform_rules.specs.Counts.{table_count as count_of};
-ghost use Rattle.goal_space.specs.Ranks.{asked_rank as asked_rank_of, dist_rank as dist_rank_of};
-ghost use Rattle.goal_space.specs.Ranks.{kind_rank as kind_rank_of, level_of, order_rank as order_rank_of};
+ghost use Rattle.query_core.specs.Sets.{bit as the_bit};
+ghost use Rattle.xform_rules.specs.Counts.{table_count as the_table_count};
+ghost use Rattle.goal_space.specs.Ranks.{asked_rank as the_asked_rank, dist_rank as the_dist_rank};
+ghost use Rattle.goal_space.specs.Ranks.{kind_rank as the_kind_rank, level_of, order_rank as the_order_rank};
 ghost use Rattle.goal_space.specs.Ranks.{rank_of};
 
 use crate::goals::GoalKind;
@@ -37,7 +37,7 @@ fn level(group: KeyParts) -> u64
 
 /// How many of the first ten tables the set has.
 pub fn table_count(set: u32) -> u64
-    ensures value { result ≡ count_of set }
+    ensures value { result ≡ the_table_count set }
     ensures few { result ≤ 10 }
 {
     bit(set, 0)
@@ -53,7 +53,7 @@ pub fn table_count(set: u32) -> u64
 }
 
 fn bit(set: u32, table: u32) -> u64
-    ensures value { result ≡ bit_of set table }
+    ensures value { result ≡ the_bit set table }
     ensures few { result ≤ 1 }
 {
     if sets::has(set, table) { 1 } else { 0 }
@@ -61,7 +61,7 @@ fn bit(set: u32, table: u32) -> u64
 
 // The rank of the goal among those of its group.
 fn kind_rank(goal: GoalKind) -> u64
-    ensures value { result ≡ kind_rank_of goal }
+    ensures value { result ≡ the_kind_rank goal }
     ensures few { result ≤ 6 }
 {
     match goal {
@@ -77,7 +77,7 @@ fn kind_rank(goal: GoalKind) -> u64
 
 // The rank of what is asked of the group.
 fn asked_rank(goal: GoalKind) -> u64
-    ensures value { result ≡ asked_rank_of goal }
+    ensures value { result ≡ the_asked_rank goal }
     ensures few { result ≤ 2 }
 {
     match goal {
@@ -92,7 +92,7 @@ fn asked_rank(goal: GoalKind) -> u64
 }
 
 fn dist_rank(dist: Dist) -> u64
-    ensures value { result ≡ dist_rank_of dist }
+    ensures value { result ≡ the_dist_rank dist }
     ensures few { result ≤ 1 }
 {
     match motion_to(dist) {
@@ -102,7 +102,7 @@ fn dist_rank(dist: Dist) -> u64
 }
 
 fn order_rank(order: u32) -> u64
-    ensures value { result ≡ order_rank_of order }
+    ensures value { result ≡ the_order_rank order }
     ensures few { result ≤ 1 }
 {
     if order == 0 { 0 } else { 1 }

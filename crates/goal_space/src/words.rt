@@ -5,7 +5,7 @@ ghost use Rattle.std.specs.Prelude.{◌≡◌, ◌↔◌, ◌<◌, ◌≤◌, �
 ghost use Rattle.query_core.specs.declared.words.GoalParts.{GoalParts};
 ghost use Rattle.query_core.specs.Goals.{goal_bit, goal_number, FitsGoal};
 ghost use Rattle.goal_space.specs.declared.goals.GoalKind.{GoalKind};
-ghost use Rattle.goal_space.specs.Words.{goal_word, parts_of, HasWord, IsInRange};
+ghost use Rattle.goal_space.specs.Words.{goal_word, parts_of, HasWord, IsGoalInRange};
 
 use crate::goals::GoalKind;
 use query_core::{
@@ -17,7 +17,7 @@ use xform_rules::{rule_of, rules_are_known};
 impl GoalKind {
     /// The word of the goal.
     pub fn word(self) -> Goal
-        requires { IsInRange self }
+        requires { IsGoalInRange self }
         ensures number { result.0 ≡ goal_word self }
         ensures high { goal_bit ≤ result.0 }
     {
@@ -37,7 +37,7 @@ impl GoalKind {
     }
 
     fn parts(self) -> GoalParts
-        requires { IsInRange self }
+        requires { IsGoalInRange self }
         ensures fits { FitsGoal result }
         ensures number { goal_number result ≡ goal_word self }
     {
@@ -55,11 +55,11 @@ impl GoalKind {
 
 /// No two goals have one word, and each word fits.
 pub fn goal_kinds_are_one()
-    ensures one { (k l : GoalKind) → IsInRange k → IsInRange l → goal_word k ≡ goal_word l →
+    ensures one { (k l : GoalKind) → IsGoalInRange k → IsGoalInRange l → goal_word k ≡ goal_word l →
         k ≡ l }
-    ensures fits { (k : GoalKind) → IsInRange k → FitsGoal (parts_of k) }
+    ensures fits { (k : GoalKind) → IsGoalInRange k → FitsGoal (parts_of k) }
     ensures high { (k : GoalKind) → goal_bit ≤ goal_word k }
-    ensures small { (k : GoalKind) → IsInRange k → goal_word k < 2 ^ 64 }
+    ensures small { (k : GoalKind) → IsGoalInRange k → goal_word k < 2 ^ 64 }
 {
     expressions_are_one();
     groups_are_known();
@@ -70,8 +70,8 @@ pub fn goal_kinds_are_one()
 // The goal with these keys, words, numbers and codes.
 fn kind_of(parts: GoalParts) -> Option<GoalKind>
     ensures { MatchOption result
-        ((k : GoalKind) → IsInRange k → parts_of k ≡ parts → ⊥)
-        (λ k. IsInRange k × (parts_of k ≡ parts)) }
+        ((k : GoalKind) → IsGoalInRange k → parts_of k ≡ parts → ⊥)
+        (λ k. IsGoalInRange k × (parts_of k ≡ parts)) }
 {
     // For the proof: a word is that of one expression.
     expressions_are_one();

@@ -15,7 +15,7 @@ use Rattle.board_rule.specs.Looks.{finished}
 use Rattle.board_rule.specs.declared.hands.Hands.{Hands}
 use Rattle.goal_board.specs.Calls.{LeavesOut}
 use Rattle.job_scheduler.specs.Workers.{Later, ShowsGoal}
-use Rattle.job_scheduler.specs.Steps.{Steps, IsDone}
+use Rattle.job_scheduler.specs.Steps.{Steps, TellsDone}
 use Rattle.job_scheduler.specs.declared.stepped.Stepped.{Stepped}
 use Rattle.job_scheduler.specs.declared.stepped.Stepped.TheVariants as stepped
 use Rattle.job_scheduler.proofs.Looking.{closed_later}
@@ -63,7 +63,7 @@ module _ (q : Query) (cells : ℕ) (looks : List (ℕ × ℕ)) where
 module _ (q : Query) (cells root number : ℕ) (near : root < cells) (asked : MembersAreAsked q) (v w : Hands Rules) where
   -- a step that found the root finished would have left out an entry
   never_done : ShowsFull v.looks → Later v.looks w.looks
-      → ShowsGoal (meaning_of q) w.looks root (goal_word (root_goal_of q)) → IsDone (meaning_of q) cells root v w → ⊥
+      → ShowsGoal (meaning_of q) w.looks root (goal_word (root_goal_of q)) → TellsDone (meaning_of q) cells root v w → ⊥
   never_done full later shown done =
       let (found, look, set) = full in
       let (head, closed_look, high) = closed_later done.looks.more v.looks root done.closed in

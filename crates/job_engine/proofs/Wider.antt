@@ -10,36 +10,36 @@ use Rattle.board_moves.specs.declared.progress.Turned.TheVariants as turned
 use Rattle.board_moves.proofs.MovesLemmas.{proceeds_wider, runs_out_wider}
 use Rattle.goal_space.specs.declared.goals.GoalKind.{GoalKind}
 use Rattle.goal_rules.specs.EntryLaws.{goal_high}
-use Rattle.job_turns.specs.Works.{Adds}
+use Rattle.job_turns.specs.Works.{AddsWord}
 
 -- what may be put in by one measure may be by a wider one
-pub turns_wider : {R : Type 0} → (Adds Wider : ℕ → Type 0) → ((word : ℕ) → Adds word → Wider word)
+pub turns_wider : {R : Type 0} → (AddsWord Wider : ℕ → Type 0) → ((word : ℕ) → AddsWord word → Wider word)
     → (cells : ℕ) (v : Hands R) (right : Right) (worker : ℕ) (result : Turned) (w : Hands R)
-    → Turns cells Adds v right worker result w → Turns cells Wider v right worker result w
-turns_wider Adds Wider wider cells v right worker (turned.Finished woken) w t = record {
+    → Turns cells AddsWord v right worker result w → Turns cells Wider v right worker result w
+turns_wider AddsWord Wider wider cells v right worker (turned.Finished woken) w t = record {
   middle = t.middle;
   after = t.after;
-  proceeds = proceeds_wider Adds Wider wider v right t.middle t.after t.proceeds;
+  proceeds = proceeds_wider AddsWord Wider wider v right t.middle t.after t.proceeds;
   cost = t.cost;
   node = t.node;
   finishes = t.finishes;
 }
-turns_wider Adds Wider wider cells v right worker turned.Suspended w t = record {
+turns_wider AddsWord Wider wider cells v right worker turned.Suspended w t = record {
   middle = t.middle;
   after = t.after;
-  proceeds = proceeds_wider Adds Wider wider v right t.middle t.after t.proceeds;
+  proceeds = proceeds_wider AddsWord Wider wider v right t.middle t.after t.proceeds;
   some_wait = t.some_wait;
   gives_up = t.gives_up;
 }
-turns_wider Adds Wider wider cells v right worker turned.Full w t = record {
+turns_wider AddsWord Wider wider cells v right worker turned.Full w t = record {
   middle = t.middle;
   after = t.after;
-  runs_out = runs_out_wider Adds Wider wider cells v right t.middle t.after t.runs_out;
+  runs_out = runs_out_wider AddsWord Wider wider cells v right t.middle t.after t.runs_out;
   gives_up = t.gives_up;
 }
 
 -- no word that a turn may put in is 0
-pub adds_some : (q : Query) (goal : GoalKind) (word : ℕ) → Adds q goal word → word ≢ 0
+pub adds_some : (q : Query) (goal : GoalKind) (word : ℕ) → AddsWord q goal word → word ≢ 0
 adds_some q goal word (inl (child, is_child, number)) none = let high = goal_high child in
     omega (arith, high, number, none)
 adds_some q goal word (inr (e, brings, number)) none = let some = word_some e in omega (arith, some, number, none)

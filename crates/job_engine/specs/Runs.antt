@@ -10,7 +10,7 @@ use Rattle.job_scheduler.specs.Crews.{AreDoneBelow}
 use Rattle.job_outcome.specs.Outcomes.{HasMoreEntries, FitsIn, IsEnd}
 use Rattle.job_outcome.specs.declared.outcome.Outcome.{Outcome}
 use Rattle.job_outcome.specs.declared.outcome.Outcome.TheVariants.{Done, Full, Unfinished}
-use Rattle.job_engine.specs.Searching.{Gives}
+use Rattle.job_engine.specs.Searching.{GivesOutcome}
 
 -- ---- what a run gives
 
@@ -56,7 +56,7 @@ finished_count closed (Unfinished goal) = length closed.finished.items
 pub record IsRun (q : Query) (cells capacity n : ℕ) (outcome : Outcome) (note : Option (ℕ × ℕ × ℕ)) : Type 0 where
   pub place : ℕ
   pub view : Hands Rules
-  pub gives : Gives q cells place view outcome
+  pub gives : GivesOutcome q cells place view outcome
   pub ended : IsEnd outcome
   pub done : AreDoneBelow n view.done
   pub noted : note ≡ Some (capacity, n, finished_count gives.closed outcome)

@@ -60,11 +60,11 @@ ShowsRoot engine v = ShowsClosed v.looks engine.scheduler.root
 -- ---- what a search gives
 
 -- a seat with these hands closed the board of so many cells, and this is what the board held
-pub record Gives (q : Query) (cells place : ℕ) (v : Hands Rules) (outcome : Outcome) : Type 0 where
+pub record GivesOutcome (q : Query) (cells place : ℕ) (v : Hands Rules) (outcome : Outcome) : Type 0 where
   pub closed : Closed
   pub its : ClosesSearch q cells place v closed
   pub is : IsOutcome q cells (mem its.closes.words).cell v.done closed outcome
 
 -- a seat with these hands closed the engine's board
 abbrev pub GivesFor : Engine → Hands Rules → Outcome → Type 0
-GivesFor engine = Gives (query_of engine) engine.cells engine.scheduler.root
+GivesFor engine = GivesOutcome (query_of engine) engine.cells engine.scheduler.root

@@ -11,7 +11,7 @@ ghost use Rattle.goal_board.specs.Seats.{hands};
 ghost use Rattle.goal_space.specs.Words.{goal_word};
 ghost use Rattle.goal_space.specs.Goals.{root_goal_of};
 
-use crate::jobs::QueryJobs;
+use crate::query_turns::QueryTurns;
 use goal_rules::Rules;
 use goal_space::{GoalKind, goals_are_known, goals_ask_for_members};
 use job_outcome::{Outcome, outcome_of};
@@ -25,7 +25,7 @@ use std::alloc::{AllocError, Global};
 /// query may have. The board may have fewer cells.
 #[derive(Drop)]
 pub struct Engine<'q> {
-    pub(crate) scheduler: Scheduler<Rules<'q>, QueryJobs<'q>>,
+    pub(crate) scheduler: Scheduler<Rules<'q>, QueryTurns<'q>>,
     pub(crate) rules: Rules<'q>,
     pub(crate) root: Goal,
     pub(crate) cells: u32,
@@ -77,8 +77,8 @@ impl<'q> Engine<'q> {
     {
         let rules = Rules::new(query, props);
         let root = root_word(query, props);
-        let jobs = QueryJobs { rules, props };
-        let (scheduler, worker) = Scheduler::start(alloc, rules, jobs, root.0, cells)?;
+        let turns = QueryTurns { rules, props };
+        let (scheduler, worker) = Scheduler::start(alloc, rules, turns, root.0, cells)?;
         let engine = Engine {
             scheduler,
             rules,

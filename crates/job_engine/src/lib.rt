@@ -2,8 +2,8 @@
 #![tactic(auto)]
 
 mod engine;
-mod jobs;
 mod note;
+mod query_turns;
 mod runs;
 mod searches;
 
@@ -11,7 +11,7 @@ pub use engine::Engine;
 pub use goal_rules::Rules;
 pub use job_outcome::Outcome;
 pub use job_scheduler::{Stepped, Worker};
-pub use jobs::QueryJobs;
 pub use note::RunNote;
+pub use query_turns::QueryTurns;
 pub use runs::{run_alone, run_crew};
 pub use searches::{search_alone, search_by_crew};

@@ -14,7 +14,7 @@ use Rattle.goal_space.specs.declared.goals.GoalKind.TheVariants.{Imp}
 use Rattle.goal_rules.specs.Meaning.{meaning_of}
 use Rattle.goal_rules.specs.EntryLaws.{goal_high}
 use Rattle.board_rule.specs.Words.{Mem}
-use Rattle.board_rule.specs.Rule.{AreCells, IsFinished, KeepsPromises, Stands}
+use Rattle.board_rule.specs.Soundness.{AreCells, IsFinished, KeepsPromises, Stands}
 
 -- the word of a goal is not below those of goals
 pub goal_word_high : (q : Query) (word : ℕ) → IsGoalWord q word → goal_bit ≤ word

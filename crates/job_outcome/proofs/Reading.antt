@@ -13,7 +13,7 @@ use Rattle.board_rule.specs.Words.{Mem, mem}
 use Rattle.board_rule.specs.Looks.{ShowsClosed}
 use Rattle.board_rule.specs.Waiters.{IsLater}
 use Rattle.board_rule.specs.Seats.{Among}
-use Rattle.board_rule.specs.Rule.{AreCells, HoldsGoal, IsFull, IsRecorded, KeepsPromises, Stays}
+use Rattle.board_rule.specs.Soundness.{AreCells, HoldsGoal, IsFull, IsRecorded, KeepsPromises, Stays}
 use Rattle.board_rule.specs.declared.hands.Hands.{Hands}
 use Rattle.goal_board.specs.Closed.{cells_below, finished_at, finished_below, IsFirstReady}
 use Rattle.goal_board.specs.declared.answers.Closed.{Closed}

@@ -16,8 +16,8 @@ use Rattle.board_moves.specs.Counts.{has_ready}
 use Rattle.board_moves.proofs.CountLemmas.{number_at_most, CountsClaim, claim_counts}
 use Rattle.job_scheduler.specs.Workers.{OnlyLooked}
 use Rattle.job_scheduler.specs.Claims.{LooksAndClaims, FindsAllBusy, FindsRootOpen, FindsRootClosed, FindsFullSet}
-use Rattle.job_scheduler.specs.Steps.{Keeps, TurnKeeps, FinishesOne, SuspendsOne, RunsOne, RunsOut, Runs, IsIdle}
-use Rattle.job_scheduler.specs.Steps.{IsDone, IsFull, Steps, StepsAlone, work_left}
+use Rattle.job_scheduler.specs.Steps.{Keeps, TurnKeeps, FinishesOne, SuspendsOne, RunsOne, RunsOut, Runs, TellsIdle}
+use Rattle.job_scheduler.specs.Steps.{TellsDone, TellsFull, Steps, StepsAlone, work_left}
 use Rattle.job_scheduler.specs.declared.stepped.Stepped.{Stepped}
 use Rattle.job_scheduler.specs.declared.stepped.Stepped.TheVariants as stepped
 use Rattle.job_scheduler.proofs.Looking.{busy_later, open_earlier, full_later, looks_both, looks_later, alone_stays}
@@ -166,7 +166,7 @@ module _ {R : Type 0} (meaning : Meaning) (capacity : ℕ) where
       });
     }
 
-    turn_full : (w : Hands R) → TurnKeeps v w right.place → RunsOut v w → IsFull meaning capacity 0 u w
+    turn_full : (w : Hands R) → TurnKeeps v w right.place → RunsOut v w → TellsFull meaning capacity 0 u w
     turn_full w k o = record {
       runs_out = record {
         more = o.more ++ claim_more;
@@ -196,10 +196,10 @@ module _ {R : Type 0} (meaning : Meaning) (capacity : ℕ) where
     turn_alone number stepped.Full w r advances = tt
 
   pub step_done : (root : ℕ) (v w : Hands R) → FindsRootClosed meaning capacity v root w
-      → IsDone meaning capacity root v w
+      → TellsDone meaning capacity root v w
   step_done root v w t = record { looks = t.looks; closed = t.closed; left_out = t.left_out }
 
-  pub step_full : (root : ℕ) (v w : Hands R) → FindsFullSet meaning capacity v w → IsFull meaning capacity root v w
+  pub step_full : (root : ℕ) (v w : Hands R) → FindsFullSet meaning capacity v w → TellsFull meaning capacity root v w
   step_full root v w t = record {
     runs_out = record {
       more = t.looks.more;
@@ -212,7 +212,7 @@ module _ {R : Type 0} (meaning : Meaning) (capacity : ℕ) where
 
   -- the root goal was found open, and then no goal ready
   pub step_idle : (root : ℕ) (u v w : Hands R) → FindsRootOpen meaning capacity u root v
-      → FindsAllBusy meaning capacity v 0 capacity w → IsIdle meaning capacity root u w
+      → FindsAllBusy meaning capacity v 0 capacity w → TellsIdle meaning capacity root u w
   step_idle root u v w a t = record {
     looks = looks_both u v w a.looks t.looks;
     busy = λ at below. busy_later meaning t.looks.more a.looks.more at (t.busy at (omega arith) below);

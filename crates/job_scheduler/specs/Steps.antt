@@ -66,21 +66,21 @@ Runs number place v stepped.Full w = RunsOut v w
 
 module _ {R : Type 0} (meaning : Meaning) (capacity root : ℕ) (v w : Hands R) where
   -- nothing was claimed, and in this call each place was found without a goal that is ready, and the root goal open
-  pub record IsIdle : Type 0 where
+  pub record TellsIdle : Type 0 where
     pub looks : OnlyLooked v w
     pub busy : (at : ℕ) → at < capacity → ShowsBusy meaning looks.more at
     pub root_open : ShowsOpen looks.more root
 
   -- nothing was claimed, and in this call the root goal was found finished; where the full word was seen set by then,
   -- some entry was shown by no look
-  pub record IsDone : Type 0 where
+  pub record TellsDone : Type 0 where
     pub looks : OnlyLooked v w
     pub closed : ShowsClosed looks.more root
     pub left_out : LeavesOut meaning capacity w.looks
 
   -- in this call the full word was found set, by a look or by an insert; one goal at most was claimed, and none
   -- finished
-  pub record IsFull : Type 0 where
+  pub record TellsFull : Type 0 where
     pub runs_out : RunsOut v w
     pub claims : (w.claims ≡ v.claims) ⊎ ((place : ℕ) × (w.claims ≡ place ∷ v.claims))
 
@@ -88,9 +88,9 @@ module _ {R : Type 0} (meaning : Meaning) (capacity root number : ℕ) (v : Hand
   -- what the answer of a step means
   abbrev pub Steps : Stepped → Hands R → Type 0
   Steps stepped.Ran w = RunsOne v w number
-  Steps stepped.Idle w = IsIdle meaning capacity root v w
-  Steps stepped.Done w = IsDone meaning capacity root v w
-  Steps stepped.Full w = IsFull meaning capacity root v w
+  Steps stepped.Idle w = TellsIdle meaning capacity root v w
+  Steps stepped.Done w = TellsDone meaning capacity root v w
+  Steps stepped.Full w = TellsFull meaning capacity root v w
 
 -- how much is left to do, which each turn brings down
 abbrev pub work_left : Meaning → ℕ → List ℕ → ℕ

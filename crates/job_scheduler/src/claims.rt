@@ -5,7 +5,7 @@ ghost use Rattle.job_scheduler.specs.Workers.{IsWorkerOf};
 ghost use Rattle.job_scheduler.specs.Claims.{StaysClosed, StaysFull, WorkerClaims, WorkerSweeps, WorkerFinds};
 ghost use Rattle.job_scheduler.specs.Claims.{WorkerSeeks, WorkerSeeksAll};
 
-use crate::jobs::Jobs;
+use crate::goal_turns::GoalTurns;
 use crate::scheduler::Scheduler;
 use crate::sought::{Sought, Standing};
 use crate::worker::Worker;
@@ -17,7 +17,7 @@ const FIRST_PIECE: u32 = 64;
 
 const LONGEST_PIECE: u32 = 512;
 
-impl<R: GoalRules, J: Jobs<R>> Scheduler<R, J> {
+impl<R: GoalRules, J: GoalTurns<R>> Scheduler<R, J> {
     // Looks at the root goal, and then at the full word.
     pub(crate) fn look(&self, worker: &mut Worker<R>) -> Standing
         requires worker { IsWorkerOf R.meaning self.now.board self.now.root self.now.goal worker.old }

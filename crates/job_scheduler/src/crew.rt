@@ -3,7 +3,7 @@ ghost use Rattle.std.specs.Prelude.{◌≡◌, ℕ, ◌+◌, ◌<◌, ◌≤◌,
 ghost use Rattle.goal_board.specs.Seats.{hands};
 ghost use Rattle.job_scheduler.specs.Crews.{IsOfCrew, Worked, AreWorked, ShowsEnd, parts_of};
 
-use crate::jobs::Jobs;
+use crate::goal_turns::GoalTurns;
 use crate::scheduler::Scheduler;
 use crate::stepped::Stepped;
 use crate::worker::Worker;
@@ -14,7 +14,7 @@ use std::sync::Wait;
 use std::thread;
 use std::thread::Threads;
 
-impl<R: GoalRules, J: Jobs<R>> Scheduler<R, J> {
+impl<R: GoalRules, J: GoalTurns<R>> Scheduler<R, J> {
     /// Lets n workers, in threads of their own, step until the root goal is finished or the board is full, and takes
     /// all of them in. Where memory is refused no worker comes back. It may wait.
     pub fn work_crew<W: Threads + Wait + Sync, G: Gate>(

@@ -4,7 +4,7 @@
 
 mod claims;
 mod crew;
-mod jobs;
+mod goal_turns;
 mod scheduler;
 mod sought;
 mod step;
@@ -12,7 +12,7 @@ mod stepped;
 mod work;
 mod worker;
 
-pub use jobs::Jobs;
+pub use goal_turns::GoalTurns;
 pub use scheduler::Scheduler;
 pub use stepped::Stepped;
 pub use worker::Worker;

@@ -4,7 +4,7 @@ ghost use Rattle.board_rule.specs.Seats.{parted, part, joined};
 ghost use Rattle.goal_board.specs.Seats.{hands};
 ghost use Rattle.goal_board.specs.Closed.{ClosesWith};
 
-use crate::jobs::Jobs;
+use crate::goal_turns::GoalTurns;
 use crate::worker::Worker;
 use goal_board::{Board, Closed, GoalRules, Hints, Inserted};
 use place_hints::PlaceHints;
@@ -12,17 +12,17 @@ use std::alloc::{AllocError, Global};
 
 /// A board, and who makes the turns of its goals, until the root goal is finished or the board is full.
 #[derive(Drop)]
-pub struct Scheduler<R: GoalRules, J: Jobs<R>> {
+pub struct Scheduler<R: GoalRules, J: GoalTurns<R>> {
     pub(crate) board: Board<R>,
-    pub(crate) jobs: J,
+    pub(crate) turns: J,
     // The place of the root goal, and its word.
     pub(crate) root: u32,
     pub(crate) goal: u64,
     ghost near: { root < board.setup.capacity },
-    ghost same_rules: { board.setup.rules ≡ J.rules_of jobs } by { Coded-set R.code board.setup.rules (J.rules_of jobs) },
+    ghost same_rules: { board.setup.rules ≡ J.rules_of turns } by { Coded-set R.code board.setup.rules (J.rules_of turns) },
 }
 
-impl<R: GoalRules, J: Jobs<R>> Scheduler<R, J> {
+impl<R: GoalRules, J: GoalTurns<R>> Scheduler<R, J> {
     ghost use Rattle.job_scheduler.specs.Workers.{IsFreeWorkerOf};
     ghost use Rattle.job_scheduler.specs.Opening.{IsOpening};
 
@@ -30,7 +30,7 @@ impl<R: GoalRules, J: Jobs<R>> Scheduler<R, J> {
     pub fn start(
         alloc: Global,
         rules: R,
-        jobs: J,
+        turns: J,
         goal: u64,
         capacity: u32,
     ) -> Result<(Scheduler<R, J>, Worker<R>), AllocError>
@@ -38,7 +38,7 @@ impl<R: GoalRules, J: Jobs<R>> Scheduler<R, J> {
         R: Drop,
         J: Drop,
         requires capacity { (1 ≤ capacity) × (capacity ≤ 2 ^ 20) }
-        requires rules { rules ≡ J.rules_of jobs }
+        requires rules { rules ≡ J.rules_of turns }
         requires goal { (R.meaning rules).entry goal × IsTrue ((R.meaning rules).goal goal) }
         ensures board { IfOk result (λ made. (made.0.board.setup.rules ≡ rules) ×
             (made.0.board.setup.capacity ≡ capacity) × (made.0.goal ≡ goal)) }
@@ -53,7 +53,7 @@ impl<R: GoalRules, J: Jobs<R>> Scheduler<R, J> {
                 hints.hint(at);
                 let scheduler = Scheduler {
                     board,
-                    jobs,
+                    turns,
                     root: at,
                     goal,
                 };
@@ -127,7 +127,7 @@ impl<R: GoalRules, J: Jobs<R>> Scheduler<R, J> {
     {
         let Scheduler {
             board,
-            jobs: _,
+            turns: _,
             root: _,
             goal: _,
         } = self;

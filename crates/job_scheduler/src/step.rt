@@ -8,7 +8,7 @@ ghost use Rattle.job_scheduler.specs.Steps.{Keeps, TurnKeeps, Runs};
 ghost use Rattle.job_scheduler.specs.Steps.{WorkerSteps, WorkerStepsAlone, WorkerAdvancesAlone};
 ghost use Rattle.job_scheduler.specs.declared.stepped.Stepped.TheVariants as stepped;
 
-use crate::jobs::Jobs;
+use crate::goal_turns::GoalTurns;
 use crate::scheduler::Scheduler;
 use crate::sought::{Sought, Standing};
 use crate::stepped::Stepped;
@@ -16,7 +16,7 @@ use crate::worker::Worker;
 use board_moves::Turned;
 use goal_board::{GoalRules, Right};
 
-impl<R: GoalRules, J: Jobs<R>> Scheduler<R, J> {
+impl<R: GoalRules, J: GoalTurns<R>> Scheduler<R, J> {
     /// Claims one goal that is ready and makes its turn, or tells why there is none. It waits for nobody and takes
     /// no memory that it can't do without.
     pub fn step(&self, worker: &mut Worker<R>) -> Stepped
@@ -56,7 +56,7 @@ impl<R: GoalRules, J: Jobs<R>> Scheduler<R, J> {
         ensures alone { result ≡ stepped.Ran →
             WorkerAdvancesAlone R.meaning self.now.board worker.old worker.new }
     {
-        let turned = self.jobs.turn(
+        let turned = self.turns.turn(
             &self.board,
             &mut worker.seat,
             right,

@@ -5,7 +5,7 @@ use Rattle.std.specs.List.{concat}
 use Rattle.std.proofs.lemmas.List.{append-nil, drop_all, drop_more}
 use Rattle.query_core.specs.declared.query.Query.{Query}
 use Rattle.goal_space.specs.declared.goals.GoalKind.{GoalKind}
-use Rattle.query_text.specs.Added.{Adds}
+use Rattle.query_text.specs.Added.{AddsText}
 use Rattle.job_trace.specs.Goals.{goal_line}
 use Rattle.job_trace.specs.Trace.{crew_lines}
 use Rattle.job_trace.proofs.Adding.{adds_more}
@@ -17,8 +17,8 @@ left_from q goals who i = concat (crew_lines q (drop i goals) (drop i who))
 -- what was added, and the lines that are left, are the whole, also with one more line
 pub crew_more : (q : Query) (goals : List GoalKind) (who : List ℕ) (i : ℕ) (d : GoalKind) → i < length goals
     → i < length who → (text middle after whole : List ℕ)
-    → text ++ left_from q goals who i ≡ whole → Adds text (decimal (get_or who i 0) ++ codes " ") middle
-    → Adds middle (goal_line q (get_or goals i d)) after
+    → text ++ left_from q goals who i ≡ whole → AddsText text (decimal (get_or who i 0) ++ codes " ") middle
+    → AddsText middle (goal_line q (get_or goals i d)) after
     → after ++ left_from q goals who (i + 1) ≡ whole
 crew_more q goals who i d within within_who text middle after whole is worker line =
     let this : List ℕ = (decimal (get_or who i 0) ++ codes " ") ++ goal_line q (get_or goals i d) in

@@ -2,7 +2,7 @@
 use Rattle.std.proofs.Common.{◌≡◌, ℕ, List, ◌++◌, flat_map, map, sym, ap, ◌∙◌}
 use Rattle.std.specs.List.{concat}
 use Rattle.query_core.specs.declared.query.Query.{Query}
-use Rattle.goal_space.specs.Words.{goal_word, IsInRange}
+use Rattle.goal_space.specs.Words.{goal_word, IsGoalInRange}
 use Rattle.goal_space.specs.declared.goals.GoalKind.{GoalKind}
 use Rattle.goal_children.specs.GoalLists.{HaveGoalWords}
 use Rattle.goal_children.specs.Over.{IsGoalOver}
@@ -10,7 +10,7 @@ use Rattle.goal_children.proofs.OneList.{goals_one}
 use Rattle.job_trace.specs.Trace.{IsTraceLine, IsTraceText, trace_line, traced_lines}
 use Rattle.job_trace.proofs.Traced.{have_words}
 
-module _ (one : (k l : GoalKind) → IsInRange k → IsInRange l → goal_word k ≡ goal_word l → k ≡ l) where
+module _ (one : (k l : GoalKind) → IsGoalInRange k → IsGoalInRange l → goal_word k ≡ goal_word l → k ≡ l) where
   -- words are those of one list of goals
   same_goals : (words : List ℕ) (kinds others : List GoalKind) → HaveGoalWords words kinds → HaveGoalWords words others
       → kinds ≡ others
@@ -23,7 +23,7 @@ module _ (one : (k l : GoalKind) → IsInRange k → IsInRange l → goal_word k
       ∙ ap trace_line (same_goals goals is.kinds again.kinds is.have again.have) ∙ sym again.is_line
 
   -- and that of the trace's text
-  pub begins : (q : Query) → ((goal : GoalKind) → IsGoalOver q goal → IsInRange goal)
+  pub begins : (q : Query) → ((goal : GoalKind) → IsGoalOver q goal → IsGoalInRange goal)
       → (members goals text line : List ℕ) → IsTraceText q members goals text → IsTraceLine goals line
       → (rest : List ℕ) × (text ≡ line ++ rest)
   begins q in_range members goals text line is first =

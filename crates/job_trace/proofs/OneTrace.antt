@@ -3,7 +3,7 @@ use Rattle.std.proofs.Common.{◌≡◌, ℕ, List, [], ◌∷◌, All, map, ref
 use Rattle.std.specs.List.{concat}
 use Rattle.std.proofs.lemmas.List.Elements.{All-head, All-tail}
 use Rattle.query_core.specs.declared.query.Query.{Query}
-use Rattle.goal_space.specs.Words.{goal_word, IsInRange}
+use Rattle.goal_space.specs.Words.{goal_word, IsGoalInRange}
 use Rattle.goal_space.specs.declared.goals.GoalKind.{GoalKind}
 use Rattle.goal_children.specs.Over.{IsGoalOver}
 use Rattle.goal_children.specs.Children.{AreChildren}
@@ -29,8 +29,8 @@ cons_parts n m ns ms same = (cc, cc)
 abbrev goals_of : List Traced → List GoalKind
 goals_of traced = map (λ t. t.goal) traced
 
-module _ (q : Query) (members : List ℕ) (in_range : (goal : GoalKind) → IsGoalOver q goal → IsInRange goal)
-    (one : (k l : GoalKind) → IsInRange k → IsInRange l → goal_word k ≡ goal_word l → k ≡ l)
+module _ (q : Query) (members : List ℕ) (in_range : (goal : GoalKind) → IsGoalOver q goal → IsGoalInRange goal)
+    (one : (k l : GoalKind) → IsGoalInRange k → IsGoalInRange l → goal_word k ≡ goal_word l → k ≡ l)
     (children_one : (goal : GoalKind) (children others : List GoalKind) → IsGoalOver q goal
     → AreChildren q members goal children → AreChildren q members goal others → children ≡ others) where
   -- each goal with its children

@@ -7,12 +7,12 @@ use Rattle.std.proofs.lemmas.List.Concat.{flat_map-append}
 use Rattle.std.proofs.lemmas.List.Folds.{concat-append}
 use Rattle.std.proofs.lemmas.List.Elements.{All-push}
 use Rattle.query_core.specs.declared.query.Query.{Query}
-use Rattle.goal_space.specs.Words.{goal_word, IsInRange}
+use Rattle.goal_space.specs.Words.{goal_word, IsGoalInRange}
 use Rattle.goal_space.specs.declared.goals.GoalKind.{GoalKind}
 use Rattle.goal_children.specs.Over.{AreGoalWords, IsGoalOver}
 use Rattle.goal_children.specs.Children.{AreChildren}
 use Rattle.goal_children.specs.GoalLists.{HaveGoalWords, IsWordOfGoal}
-use Rattle.query_text.specs.Added.{Adds}
+use Rattle.query_text.specs.Added.{AddsText}
 use Rattle.job_trace.specs.Goals.{child_line, goal_line}
 use Rattle.job_trace.specs.Trace.{AreGoals, Traced, traced_lines}
 use Rattle.job_trace.specs.GoalLines.{AddsTraced}
@@ -20,13 +20,13 @@ use Rattle.job_trace.proofs.Adding.{adds_more}
 
 -- goals over the query that have these words
 pub have_words : (q : Query) (words : List ℕ) (goals : List GoalKind)
-    → ((goal : GoalKind) → IsGoalOver q goal → IsInRange goal) → AreGoals q words goals → HaveGoalWords words goals
+    → ((goal : GoalKind) → IsGoalOver q goal → IsGoalInRange goal) → AreGoals q words goals → HaveGoalWords words goals
 have_words q words goals in_range are = record {
   numbers = are.numbers;
   in_range = λ k d within. in_range _ (are.over k d within);
 }
 
-module _ (q : Query) (words : List ℕ) (in_range : (goal : GoalKind) → IsGoalOver q goal → IsInRange goal)
+module _ (q : Query) (words : List ℕ) (in_range : (goal : GoalKind) → IsGoalOver q goal → IsGoalInRange goal)
     (words_over : AreGoalWords q words) where
   -- words of goals over the query are words of goals
   pub words_of_goals : All IsWordOfGoal words
@@ -34,7 +34,7 @@ module _ (q : Query) (words : List ℕ) (in_range : (goal : GoalKind) → IsGoal
       (goal, record { in_range = in_range goal over; number = number })
 
   -- where a word is that of one goal, the goals of such words are goals over the query
-  pub are_goals : ((k l : GoalKind) → IsInRange k → IsInRange l → goal_word k ≡ goal_word l → k ≡ l)
+  pub are_goals : ((k l : GoalKind) → IsGoalInRange k → IsGoalInRange l → goal_word k ≡ goal_word l → k ≡ l)
       → (goals : List GoalKind) → HaveGoalWords words goals → AreGoals q words goals
   are_goals one goals have = record {
     numbers = have.numbers;
@@ -57,9 +57,9 @@ module _ (q : Query) (words : List ℕ) (in_range : (goal : GoalKind) → IsGoal
 -- one more child
 pub child_more : (q : Query) (children : List GoalKind) (i : ℕ) (d : GoalKind) → i < length children
     → (first before after : List ℕ)
-    → Adds first (concat (map (child_line q) (take i children))) before
-    → Adds before (child_line q (get_or children i d)) after
-    → Adds first (concat (map (child_line q) (take (i + 1) children))) after
+    → AddsText first (concat (map (child_line q) (take i children))) before
+    → AddsText before (child_line q (get_or children i d)) after
+    → AddsText first (concat (map (child_line q) (take (i + 1) children))) after
 child_more q children i d within first before after so_far line =
     let earlier : List ℕ = concat (map (child_line q) (take i children)) in
     let this : List ℕ = child_line q (get_or children i d) in
@@ -83,8 +83,8 @@ module _ (q : Query) (members : List ℕ) where
   -- the lines of one more goal and of its children
   pub traced_more : (goals : List GoalKind) (goal : GoalKind) (children : List GoalKind)
       (before middle after last : List ℕ) → AreChildren q members goal children
-      → AddsTraced q members goals before middle → Adds middle (goal_line q goal) after
-      → Adds after (concat (map (child_line q) children)) last
+      → AddsTraced q members goals before middle → AddsText middle (goal_line q goal) after
+      → AddsText after (concat (map (child_line q) children)) last
       → AddsTraced q members (goals ++ goal ∷ []) before last
   traced_more goals goal children before middle after last are so_far line lines =
       let this : Traced = record { goal = goal; children = children } in

@@ -18,5 +18,5 @@ piece_text q (Member e) = codes "OptE " ++ member_text q (expr_of e) ++ codes " 
 piece_text q (Wanted wanted) = request_text q wanted ++ codes "\n"
 
 -- each piece that is kept has its text
-abbrev pub AreKept : Query → List (Option Written) → Type 0
-AreKept q places = All (λ place. IfSome place (λ kept. kept.text ≡ piece_text q kept.piece)) places
+abbrev pub AreWritten : Query → List (Option Written) → Type 0
+AreWritten q places = All (λ place. IfSome place (λ kept. kept.text ≡ piece_text q kept.piece)) places

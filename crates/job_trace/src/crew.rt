@@ -5,7 +5,7 @@ ghost use Rattle.std.specs.Prelude.{◌≡◌, IfOk, OnOk, length, string_bytes}
 ghost use Rattle.std.specs.List.{concat};
 ghost use Rattle.request_props.specs.Numbered.{IsProps};
 ghost use Rattle.goal_children.specs.Over.{AreGoalWords};
-ghost use Rattle.query_text.specs.Added.{Adds};
+ghost use Rattle.query_text.specs.Added.{AddsText};
 ghost use Rattle.job_trace.specs.Trace as texts;
 ghost use Rattle.job_trace.specs.Trace.{IsCrewText};
 
@@ -48,7 +48,7 @@ fn push_crew_lines(
 ) -> Result<(), AllocError>
     requires props { IsProps query.now props.now }
     requires each { length who.now ≡ length goals.now }
-    ensures ok { OnOk result (Adds (string_bytes text.old)
+    ensures ok { OnOk result (AddsText (string_bytes text.old)
         (concat (texts.crew_lines query.now goals.now who.now)) (string_bytes text.new)) }
 {
     let mut pieces = Pieces::new(alloc, goals.len())?;

@@ -3,11 +3,11 @@
 
 ghost use Rattle.std.specs.Prelude.{◌++◌, OnOk, codes, string_bytes};
 ghost use Rattle.request_props.specs.Numbered.{IsProps};
-ghost use Rattle.query_text.specs.Added.{Adds};
+ghost use Rattle.query_text.specs.Added.{AddsText};
 ghost use Rattle.job_trace.specs.Goals as texts;
 ghost use Rattle.job_trace.specs.Groups as texts_of_groups;
 ghost use Rattle.job_trace.specs.Members as texts_of_members;
-ghost use Rattle.job_trace.specs.Pieces.{AreKept};
+ghost use Rattle.job_trace.specs.Pieces.{AreWritten};
 
 use crate::groups::push_group;
 use crate::members::push_member;
@@ -27,10 +27,10 @@ pub fn push_goal_line(
     text: &mut String,
 ) -> Result<(), AllocError>
     requires props { IsProps query.now props.now }
-    requires kept { AreKept query.now pieces.old }
-    ensures ok { OnOk result (Adds (string_bytes text.old)
+    requires kept { AreWritten query.now pieces.old }
+    ensures ok { OnOk result (AddsText (string_bytes text.old)
         (texts.goal_line query.now goal) (string_bytes text.new)) }
-    ensures kept { OnOk result (AreKept query.now pieces.new) }
+    ensures kept { OnOk result (AreWritten query.now pieces.new) }
 {
     match goal {
         GoalKind::Exp(group) => push_of_group(query, "Exp ", group, text),
@@ -65,10 +65,10 @@ pub fn push_child_line(
     text: &mut String,
 ) -> Result<(), AllocError>
     requires props { IsProps query.now props.now }
-    requires kept { AreKept query.now pieces.old }
-    ensures ok { OnOk result (Adds (string_bytes text.old)
+    requires kept { AreWritten query.now pieces.old }
+    ensures ok { OnOk result (AddsText (string_bytes text.old)
         (texts.child_line query.now child) (string_bytes text.new)) }
-    ensures kept { OnOk result (AreKept query.now pieces.new) }
+    ensures kept { OnOk result (AreWritten query.now pieces.new) }
 {
     match child {
         GoalKind::Opt(group, wanted) => {
@@ -88,7 +88,7 @@ fn push_of_group(
     group: KeyParts,
     text: &mut String,
 ) -> Result<(), AllocError>
-    ensures ok { OnOk result (Adds (string_bytes text.old)
+    ensures ok { OnOk result (AddsText (string_bytes text.old)
         (name.now ++ texts_of_groups.group_text query.now group ++ codes "\n") (string_bytes text.new)) }
 {
     text.push_str(name)?;
@@ -103,7 +103,7 @@ fn push_of_member(
     e: ExprParts,
     text: &mut String,
 ) -> Result<(), AllocError>
-    ensures ok { OnOk result (Adds (string_bytes text.old)
+    ensures ok { OnOk result (AddsText (string_bytes text.old)
         (name.now ++ texts_of_members.member_text query.now e ++ codes "\n") (string_bytes text.new)) }
 {
     text.push_str(name)?;

@@ -3,7 +3,7 @@
 
 ghost use Rattle.std.specs.Prelude.{OnOk, string_bytes};
 ghost use Rattle.query_core.specs.Keys.{IsGroup};
-ghost use Rattle.query_text.specs.Added.{Adds};
+ghost use Rattle.query_text.specs.Added.{AddsText};
 ghost use Rattle.job_trace.specs.Groups as texts;
 
 use cardinality::rows;
@@ -14,7 +14,7 @@ use std::alloc::AllocError;
 /// Adds the line of a group, with its estimated rows.
 pub fn push_group_line(query: &Query, group: KeyParts, text: &mut String) -> Result<(), AllocError>
     requires { IsGroup query.now group }
-    ensures ok { OnOk result (Adds (string_bytes text.old)
+    ensures ok { OnOk result (AddsText (string_bytes text.old)
         (texts.group_line query.now group) (string_bytes text.new)) }
 {
     groups_are_known();
@@ -26,7 +26,7 @@ pub fn push_group_line(query: &Query, group: KeyParts, text: &mut String) -> Res
 
 /// Adds a group.
 pub fn push_group(query: &Query, group: KeyParts, text: &mut String) -> Result<(), AllocError>
-    ensures ok { OnOk result (Adds (string_bytes text.old)
+    ensures ok { OnOk result (AddsText (string_bytes text.old)
         (texts.group_text query.now group) (string_bytes text.new)) }
 {
     match group {
@@ -45,7 +45,7 @@ fn push_named(
     group: KeyParts,
     text: &mut String,
 ) -> Result<(), AllocError>
-    ensures ok { OnOk result (Adds (string_bytes text.old)
+    ensures ok { OnOk result (AddsText (string_bytes text.old)
         (texts.named name.now (texts.tables_text query.now group)) (string_bytes text.new)) }
 {
     text.push_str(name)?;
@@ -56,7 +56,7 @@ fn push_named(
 
 /// Adds the tables that a group joins, by their aliases.
 pub fn push_tables(query: &Query, group: KeyParts, text: &mut String) -> Result<(), AllocError>
-    ensures ok { OnOk result (Adds (string_bytes text.old)
+    ensures ok { OnOk result (AddsText (string_bytes text.old)
         (texts.tables_text query.now group) (string_bytes text.new)) }
 {
     match group {
@@ -69,7 +69,7 @@ pub fn push_tables(query: &Query, group: KeyParts, text: &mut String) -> Result<
 }
 
 fn push_set(query: &Query, set: u32, text: &mut String) -> Result<(), AllocError>
-    ensures ok { OnOk result (Adds (string_bytes text.old)
+    ensures ok { OnOk result (AddsText (string_bytes text.old)
         (texts.set_text query.now set) (string_bytes text.new)) }
 {
     let mut separator = "";

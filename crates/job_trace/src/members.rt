@@ -2,7 +2,7 @@
 #![tactic(auto)]
 
 ghost use Rattle.std.specs.Prelude.{◌≡◌, OnOk, string_bytes};
-ghost use Rattle.query_text.specs.Added.{Adds};
+ghost use Rattle.query_text.specs.Added.{AddsText};
 ghost use Rattle.job_trace.specs.Members as texts;
 
 use crate::groups::push_tables;
@@ -16,7 +16,7 @@ pub fn push_member_line(
     member: ExprParts,
     text: &mut String,
 ) -> Result<(), AllocError>
-    ensures ok { OnOk result (Adds (string_bytes text.old)
+    ensures ok { OnOk result (AddsText (string_bytes text.old)
         (texts.member_line query.now member) (string_bytes text.new)) }
 {
     text.push_str("  ")?;
@@ -26,7 +26,7 @@ pub fn push_member_line(
 
 /// Adds a member.
 pub fn push_member(query: &Query, member: ExprParts, text: &mut String) -> Result<(), AllocError>
-    ensures ok { OnOk result (Adds (string_bytes text.old)
+    ensures ok { OnOk result (AddsText (string_bytes text.old)
         (texts.member_text query.now member) (string_bytes text.new)) }
 {
     match member.operator {
@@ -41,7 +41,7 @@ fn push_logical(
     operator: Logical,
     text: &mut String,
 ) -> Result<(), AllocError>
-    ensures ok { OnOk result (Adds (string_bytes text.old)
+    ensures ok { OnOk result (AddsText (string_bytes text.old)
         (texts.logical_text query.now group operator) (string_bytes text.new)) }
 {
     text.push_str(logical_name(operator))?;
@@ -70,7 +70,7 @@ fn push_about(
     operator: Logical,
     text: &mut String,
 ) -> Result<(), AllocError>
-    ensures ok { OnOk result (Adds (string_bytes text.old)
+    ensures ok { OnOk result (AddsText (string_bytes text.old)
         (texts.logical_about query.now group operator) (string_bytes text.new)) }
 {
     match operator {
@@ -89,7 +89,7 @@ fn push_physical(
     operator: Physical,
     text: &mut String,
 ) -> Result<(), AllocError>
-    ensures ok { OnOk result (Adds (string_bytes text.old)
+    ensures ok { OnOk result (AddsText (string_bytes text.old)
         (texts.physical_text query.now group operator) (string_bytes text.new)) }
 {
     text.push_str(name_of_operator(operator))?;
@@ -112,7 +112,7 @@ fn push_about_by(
     access: Access,
     text: &mut String,
 ) -> Result<(), AllocError>
-    ensures ok { OnOk result (Adds (string_bytes text.old)
+    ensures ok { OnOk result (AddsText (string_bytes text.old)
         (texts.about_by query.now group operator access) (string_bytes text.new)) }
 {
     match access {
@@ -128,7 +128,7 @@ fn push_index(
     index: u32,
     text: &mut String,
 ) -> Result<(), AllocError>
-    ensures ok { OnOk result (Adds (string_bytes text.old)
+    ensures ok { OnOk result (AddsText (string_bytes text.old)
         (texts.index_text query.now group index) (string_bytes text.new)) }
 {
     push_tables(query, group, text)?;
@@ -142,7 +142,7 @@ fn push_sides(
     right: KeyParts,
     text: &mut String,
 ) -> Result<(), AllocError>
-    ensures ok { OnOk result (Adds (string_bytes text.old)
+    ensures ok { OnOk result (AddsText (string_bytes text.old)
         (texts.sides_text query.now left right) (string_bytes text.new)) }
 {
     push_tables(query, left, text)?;

@@ -4,15 +4,15 @@
 ghost use Rattle.std.specs.Prelude.{◌≡◌, ◌+◌, ◌++◌, ℕ, List, All, IfOk, OnOk, flat_map, length, map, string_bytes};
 ghost use Rattle.std.specs.List.{concat};
 ghost use Rattle.std.specs.List.Sorted.{IsStrictlyIncreasing};
-ghost use Rattle.query_core.specs.Keys.{key_number, IsInRange, IsGroup};
+ghost use Rattle.query_core.specs.Keys.{key_number, IsGroupInRange, IsGroup};
 ghost use Rattle.query_core.specs.Expressions.{IsCandidateWord, IsWord};
 ghost use Rattle.query_core.specs.declared.query.Query.{Query};
 ghost use Rattle.query_core.specs.declared.expressions.ExprParts.{ExprParts};
 ghost use Rattle.goal_children.specs.GroupMembers.{AreOfWords};
-ghost use Rattle.query_text.specs.Added.{Adds};
+ghost use Rattle.query_text.specs.Added.{AddsText};
 ghost use Rattle.job_trace.specs.Memo as texts;
 ghost use Rattle.job_trace.specs.Memo.{AreMembers, IsMemoLine, IsMemoText, groups_of, group_lines, memo_section};
-ghost use Rattle.job_trace.specs.Lines.{StandByGroup, begins as does_begin, heading};
+ghost use Rattle.job_trace.specs.Lines.{StandByGroup, begins as the_begins, heading};
 
 use crate::counts::push_count;
 use crate::groups::push_group_line;
@@ -115,7 +115,7 @@ fn text_of(alloc: Global, query: &Query, members: &[ExprParts]) -> Result<Vec<u8
 }
 
 fn line_of(alloc: Global, members: &[ExprParts]) -> Result<Vec<u8>, AllocError>
-    requires { All (λ e. IsInRange e.group) members.now }
+    requires { All (λ e. IsGroupInRange e.group) members.now }
     ensures { IfOk result (λ line.
         line.items ≡ texts.memo_line (length (groups_of members.now)) (length members.now)) }
 {
@@ -126,7 +126,7 @@ fn line_of(alloc: Global, members: &[ExprParts]) -> Result<Vec<u8>, AllocError>
 
 // Adds the first line.
 fn push_memo_line(groups: usize, members: usize, text: &mut String) -> Result<(), AllocError>
-    ensures ok { OnOk result (Adds (string_bytes text.old)
+    ensures ok { OnOk result (AddsText (string_bytes text.old)
         (texts.memo_line groups members) (string_bytes text.new)) }
 {
     push_count("memo groups=", groups, text)?;
@@ -136,7 +136,7 @@ fn push_memo_line(groups: usize, members: usize, text: &mut String) -> Result<()
 
 // How many groups the members have.
 fn group_count(members: &[ExprParts]) -> usize
-    requires { All (λ e. IsInRange e.group) members.now }
+    requires { All (λ e. IsGroupInRange e.group) members.now }
     ensures { result ≡ length (groups_of members.now) }
 {
     let mut count = 0;
@@ -154,7 +154,7 @@ fn group_count(members: &[ExprParts]) -> usize
 // Adds the line of each group, and behind it those of its members.
 fn push_groups(query: &Query, members: &[ExprParts], text: &mut String) -> Result<(), AllocError>
     requires { StandByGroup query.now members.now }
-    ensures ok { OnOk result (Adds (string_bytes text.old)
+    ensures ok { OnOk result (AddsText (string_bytes text.old)
         (concat (flat_map (group_lines query.now members.now) (groups_of members.now)))
         (string_bytes text.new)) }
 {
@@ -176,7 +176,7 @@ fn push_heading(
     text: &mut String,
 ) -> Result<(), AllocError>
     requires { IsGroup query.now group }
-    ensures ok { OnOk result (Adds (string_bytes text.old)
+    ensures ok { OnOk result (AddsText (string_bytes text.old)
         (concat (heading query.now before group)) (string_bytes text.new)) }
 {
     groups_are_known();
@@ -188,7 +188,7 @@ fn push_heading(
 
 // Whether a member of this key begins a group, where that before it had the other key.
 fn begins(before: Option<u32>, key: u32) -> bool
-    ensures { result ≡ does_begin before key }
+    ensures { result ≡ the_begins before key }
 {
     match before {
         Some(last) => key != last,

@@ -5,9 +5,9 @@ ghost use Rattle.std.specs.Prelude.{◌≡◌, IfOk, IfSome, IsTrue, OnOk, lengt
 ghost use Rattle.request_props.specs.Numbered.{IsProps};
 ghost use Rattle.query_core.specs.declared.query.Query.{Query as AnyQuery};
 ghost use Rattle.query_core.specs.Expressions.{expr_of};
-ghost use Rattle.query_text.specs.Added.{Adds};
+ghost use Rattle.query_text.specs.Added.{AddsText};
 ghost use Rattle.job_trace.specs.Members.{member_text};
-ghost use Rattle.job_trace.specs.Pieces.{piece_text, AreKept};
+ghost use Rattle.job_trace.specs.Pieces.{piece_text, AreWritten};
 
 use crate::groups::push_group;
 use crate::members::push_member;
@@ -61,7 +61,7 @@ const ORDERS: u32 = 16;
 impl Pieces {
     /// No piece has a text yet. There are places enough for the lines of so many goals.
     pub fn new(alloc: Global, goals: usize) -> Result<Pieces, AllocError>
-        ensures kept { IfOk result (λ made. (q : AnyQuery) → AreKept q made) }
+        ensures kept { IfOk result (λ made. (q : AnyQuery) → AreWritten q made) }
         ensures places { IfOk result (λ made. length made ≡ min goals 65536) }
     {
         let count = goals.min(MOST_PLACES);
@@ -82,10 +82,10 @@ impl Pieces {
         text: &mut String,
     ) -> Result<(), AllocError>
         requires props { IsProps query.now props.now }
-        requires kept { AreKept query.now self.old }
-        ensures ok { OnOk result (Adds (string_bytes text.old)
+        requires kept { AreWritten query.now self.old }
+        ensures ok { OnOk result (AddsText (string_bytes text.old)
             (piece_text query.now piece) (string_bytes text.new)) }
-        ensures kept { OnOk result (AreKept query.now self.new) }
+        ensures kept { OnOk result (AreWritten query.now self.new) }
     {
         let place = place_of(piece, self.places.len());
         if let Some(known) = self.find(place, piece) {
@@ -99,7 +99,7 @@ impl Pieces {
 
     // The text of the piece, where its place has it.
     fn find(&self, place: usize, piece: Piece) -> Option<&str>
-        ensures { (q : AnyQuery) → AreKept q self.now
+        ensures { (q : AnyQuery) → AreWritten q self.now
             → IfSome result (λ known. known.now ≡ piece_text q piece) }
     {
         match self.places.as_slice().get(place) {
@@ -110,8 +110,8 @@ impl Pieces {
 
     // Gives the place to the piece.
     fn keep(&mut self, place: usize, made: Written)
-        ensures { (q : AnyQuery) → AreKept q self.old → made.text ≡ piece_text q made.piece
-            → AreKept q self.new }
+        ensures { (q : AnyQuery) → AreWritten q self.old → made.text ≡ piece_text q made.piece
+            → AreWritten q self.new }
     {
         if place < self.places.len() {
             self.places[place] = Some(made);
@@ -181,7 +181,7 @@ fn push_piece(
     text: &mut String,
 ) -> Result<(), AllocError>
     requires { IsProps query.now props.now }
-    ensures ok { OnOk result (Adds (string_bytes text.old)
+    ensures ok { OnOk result (AddsText (string_bytes text.old)
         (piece_text query.now piece) (string_bytes text.new)) }
 {
     match piece {
@@ -207,7 +207,7 @@ fn push_piece(
 // The place of a piece among so many. Pieces of one group stand side by side, since their lines do. Another piece may
 // have the same place, but seldom one that is printed beside it.
 fn place_of(piece: Piece, places: usize) -> usize {
-    let spread = u64::from(mixed(number_of(piece), 0));
+    let spread = u64::from(mixed(number_of_piece(piece), 0));
     let first = (spread.wrapping_mul(places as u64) >> 32) as usize;
     let place = first.wrapping_add(place_in_group(piece) as usize);
     match place.checked_sub(places) {
@@ -217,7 +217,7 @@ fn place_of(piece: Piece, places: usize) -> usize {
 }
 
 // A number that few have but the pieces of one group.
-fn number_of(piece: Piece) -> u32 {
+fn number_of_piece(piece: Piece) -> u32 {
     match piece {
         Piece::Child(group, _) => number_of_group(group),
         Piece::Member(e) => mixed(number_of_group(e.group), number_of_member(e)),

@@ -3,7 +3,7 @@
 
 ghost use Rattle.std.specs.Prelude.{OnOk, string_bytes};
 ghost use Rattle.request_props.specs.Numbered.{IsProps};
-ghost use Rattle.query_text.specs.Added.{Adds};
+ghost use Rattle.query_text.specs.Added.{AddsText};
 ghost use Rattle.job_trace.specs.Requests as texts;
 
 use query_core::Query;
@@ -19,7 +19,7 @@ pub fn push_request(
     text: &mut String,
 ) -> Result<(), AllocError>
     requires { IsProps query.now props.now }
-    ensures ok { OnOk result (Adds (string_bytes text.old)
+    ensures ok { OnOk result (AddsText (string_bytes text.old)
         (texts.request_text query.now wanted) (string_bytes text.new)) }
 {
     text.push_str("[")?;
@@ -30,7 +30,7 @@ pub fn push_request(
 
 fn push_dist(query: &Query, props: &Props, dist: Dist, text: &mut String) -> Result<(), AllocError>
     requires { IsProps query.now props.now }
-    ensures ok { OnOk result (Adds (string_bytes text.old)
+    ensures ok { OnOk result (AddsText (string_bytes text.old)
         (texts.dist_text query.now dist) (string_bytes text.new)) }
 {
     match dist {
@@ -53,7 +53,7 @@ fn push_order_part(
     text: &mut String,
 ) -> Result<(), AllocError>
     requires { IsProps query.now props.now }
-    ensures ok { OnOk result (Adds (string_bytes text.old)
+    ensures ok { OnOk result (AddsText (string_bytes text.old)
         (texts.order_part query.now order) (string_bytes text.new)) }
 {
     match order {

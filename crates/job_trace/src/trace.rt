@@ -10,12 +10,12 @@ ghost use Rattle.request_props.specs.Numbered.{IsProps};
 ghost use Rattle.goal_space.specs.Words.{parts_of};
 ghost use Rattle.goal_children.specs.GoalLists.{HaveGoalWords, IsWordOfGoal};
 ghost use Rattle.goal_children.specs.Over.{AreGoalWords, IsGoalOver};
-ghost use Rattle.query_text.specs.Added.{Adds};
+ghost use Rattle.query_text.specs.Added.{AddsText};
 ghost use Rattle.job_trace.specs.Counts.{counted};
 ghost use Rattle.job_trace.specs.Goals.{child_line};
 ghost use Rattle.job_trace.specs.Trace as texts;
 ghost use Rattle.job_trace.specs.Trace.{count_of, AreGoals, IsTraceLine, IsTraceText};
-ghost use Rattle.job_trace.specs.Pieces.{AreKept};
+ghost use Rattle.job_trace.specs.Pieces.{AreWritten};
 ghost use Rattle.job_trace.specs.GoalLines.{AddsTraced};
 
 use crate::counts::push_count;
@@ -89,7 +89,7 @@ fn goals_of(alloc: Global, words: &[u64]) -> Result<Vec<GoalKind>, AllocError>
 
 // Adds the first line.
 fn push_trace_line(goals: &[GoalKind], text: &mut String) -> Result<(), AllocError>
-    ensures ok { OnOk result (Adds (string_bytes text.old)
+    ensures ok { OnOk result (AddsText (string_bytes text.old)
         (texts.trace_line goals.now) (string_bytes text.new)) }
 {
     push_count("trace goals=", goals.len(), text)?;
@@ -110,7 +110,7 @@ fn push_kind(
     kind: u64,
     text: &mut String,
 ) -> Result<(), AllocError>
-    ensures ok { OnOk result (Adds (string_bytes text.old)
+    ensures ok { OnOk result (AddsText (string_bytes text.old)
         (counted label.now (count_of kind goals.now)) (string_bytes text.new)) }
 {
     push_count(label, count_kind(goals, kind), text)
@@ -177,10 +177,10 @@ fn push_child_lines(
     text: &mut String,
 ) -> Result<(), AllocError>
     requires props { IsProps query.now props.now }
-    requires kept { AreKept query.now pieces.old }
-    ensures ok { OnOk result (Adds (string_bytes text.old)
+    requires kept { AreWritten query.now pieces.old }
+    ensures ok { OnOk result (AddsText (string_bytes text.old)
         (concat (map (child_line query.now) children.now)) (string_bytes text.new)) }
-    ensures kept { OnOk result (AreKept query.now pieces.new) }
+    ensures kept { OnOk result (AreWritten query.now pieces.new) }
 {
     for child in children {
         push_child_line(alloc, query, props, *child, pieces, text)?;

@@ -27,9 +27,9 @@ use Rattle.goal_rules.specs.Answers.{AreWordsOf, IsAnswerWord}
 use Rattle.goal_rules.specs.declared.rules.Rules.{Rules}
 use Rattle.job_turns.specs.Laws.{ChildrenAreKnown, AskedAreKnown}
 use Rattle.job_turns.specs.Works.{WorksOn}
-use Rattle.job_turns.specs.Choices.{most_word, AnswersAreKnown, FindsChoice, Chooses, IsProgressOf}
-use Rattle.job_turns.specs.declared.choice.Choice.{Choice}
-use Rattle.job_turns.specs.declared.choice.Choice.TheVariants.{Known, Open}
+use Rattle.job_turns.specs.Choices.{most_word, AnswersAreKnown, FindsBest, Chooses, IsProgressOf}
+use Rattle.job_turns.specs.declared.known_best.KnownBest.{KnownBest}
+use Rattle.job_turns.specs.declared.known_best.KnownBest.TheVariants.{Known, Open}
 use Rattle.job_turns.proofs.Naming.{WordsAreOne}
 use Rattle.job_turns.proofs.Promises.{goes_on, runs_out, promise_shown}
 
@@ -74,7 +74,7 @@ module _ (q : Query) (capacity : ℕ) (small : IsWithinLimits q) (children : Chi
 
   -- it is done where the answer is known and the right has no wait
   works_known : (best : Option Best) (answer : Answer) (w : Hands Rules) (after : Right)
-      → FindsChoice q capacity v before (IsChildGoal (IsMember q) q goal) (IsAnswerTo q goal) (Known best) w after
+      → FindsBest q capacity v before (IsChildGoal (IsMember q) q goal) (IsAnswerTo q goal) (Known best) w after
       → after.waits ≡ 0 → AreWordsOf best answer.cost answer.node
       → WorksOn q capacity v before goal (progress.Complete answer) w after
   works_known best answer w after t none words =
@@ -91,7 +91,7 @@ module _ (q : Query) (capacity : ℕ) (small : IsWithinLimits q) (children : Chi
         ),
       )
 
-  pub works_chosen : (found : Option Choice) (w : Hands Rules) (after : Right) (result : Progress)
+  pub works_chosen : (found : Option KnownBest) (w : Hands Rules) (after : Right) (result : Progress)
       → Chooses q capacity v before (IsChildGoal (IsMember q) q goal) (IsAnswerTo q goal) found w after
       → IsProgressOf after found result
       → WorksOn q capacity v before goal result w after

@@ -13,7 +13,7 @@ use Rattle.goal_rules.specs.Explored.{IsExplorationOf}
 use Rattle.goal_rules.specs.Meaning.{meaning_of}
 use Rattle.board_moves.specs.Collects.{IsReached, from_origin, from_child, IsExploration, ExplorationAdds}
 use Rattle.job_turns.specs.Laws.{ChildrenAreKnown}
-use Rattle.job_turns.specs.Works.{Adds}
+use Rattle.job_turns.specs.Works.{AddsWord}
 
 module _ (q : Query) (group : KeyParts) where
   -- what exploration finds is reached
@@ -40,7 +40,7 @@ module _ (q : Query) (group : KeyParts) where
 
   -- what the work of an exploration puts in the turn may put in
   pub exploration_adds : ChildrenAreKnown q → IsWithinLimits q → (word : ℕ) → NamesGoal q word (Exp group) → (other : ℕ)
-      → ExplorationAdds (meaning_of q) (origin_word q group) word other → Adds q (Exp group) other
+      → ExplorationAdds (meaning_of q) (origin_word q group) word other → AddsWord q (Exp group) other
   exploration_adds children small word names other adds =
       ⊎_elim (λ (is : IsChildWord q word other). inl (children small (Exp group) word other names is))
       (λ (is : other ≡ origin_word q group). inr (origin_of q group, refl, sym is)) adds

@@ -33,7 +33,7 @@ use Rattle.board_moves.proofs.MovesLemmas.{proceeds_then, later_proceeded}
 use Rattle.board_moves.proofs.Working.{works_end}
 use Rattle.job_turns.specs.Groups.{implemented}
 use Rattle.job_turns.specs.Laws.{ChildrenAreKnown, AskedAreKnown}
-use Rattle.job_turns.specs.Works.{Adds, WorksOn}
+use Rattle.job_turns.specs.Works.{AddsWord, WorksOn}
 use Rattle.job_turns.proofs.Promises.{goes_on, promise_shown}
 
 -- rules that explore give logical expressions, and the others physical ones; a rule has results where it applies, in
@@ -191,7 +191,7 @@ module _ (q : Query) (group : KeyParts) where
       ) in
       all.finished none (word_of e) (all.knew (word_of e) held
       (logical_shown q laws capacity u.looks group names.is_goal explored e is_in)) in
-      works_end (meaning_of q) capacity (Adds q (Imp group)) v start w after (record { cost = 0; node = 0 }) came
+      works_end (meaning_of q) capacity (AddsWord q (Imp group)) v start w after (record { cost = 0; node = 0 }) came
       (goes_on q children small (Imp group) v start w after names whole)
       (λ none. promise_shown q children small (Imp group) asked capacity w.looks start.goal names
       (λ child is. ⊎_elim (λ exp. subst (λ k. ShowsFinished (meaning_of q) capacity w.looks (goal_word k)) (sym exp)

@@ -3,7 +3,7 @@ use Rattle.std.proofs.Common.{◌≡◌, ℕ, ◌∙◌, refl, sym, subst}
 use Rattle.query_core.specs.declared.query.Query.{Query}
 use Rattle.xform_rules.specs.Closure.{IsMember}
 use Rattle.request_props.specs.Numbered.{IsWithinLimits}
-use Rattle.goal_space.specs.Words.{goal_word, IsInRange}
+use Rattle.goal_space.specs.Words.{goal_word, IsGoalInRange}
 use Rattle.goal_space.specs.Children.{IsChildGoal}
 use Rattle.goal_space.specs.Asked.{AsksFor}
 use Rattle.goal_space.specs.Goals.{child_goal}
@@ -14,7 +14,7 @@ use Rattle.job_turns.specs.Laws.{ChildrenAreKnown, AskedAreKnown, ChildrenHaveWo
 
 -- no two goals have one word
 abbrev pub WordsAreOne : Type 0
-WordsAreOne = (k l : GoalKind) → IsInRange k → IsInRange l → goal_word k ≡ goal_word l → k ≡ l
+WordsAreOne = (k l : GoalKind) → IsGoalInRange k → IsGoalInRange l → goal_word k ≡ goal_word l → k ≡ l
 
 module _ (q : Query) where
   same_goal : WordsAreOne → GoalsHaveWords q → IsWithinLimits q → (word : ℕ) (goal other : GoalKind)

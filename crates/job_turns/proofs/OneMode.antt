@@ -2,7 +2,7 @@
 use Rattle.std.proofs.Common.{◌≡◌, ◌⊎◌, ℕ, Option, None, Some, List, [], ◌∷◌, refl, sym, ap, subst, ◌∙◌, inl, inr}
 use Rattle.std.proofs.Common.{⊎_elim}
 use Rattle.query_core.specs.Expressions.{physical_children}
-use Rattle.query_core.specs.Keys.{Names}
+use Rattle.query_core.specs.Keys.{NamesGroup}
 use Rattle.query_core.specs.declared.query.Query.{Query}
 use Rattle.query_core.specs.declared.words.Key.{Key}
 use Rattle.query_core.specs.declared.words.KeyParts.{KeyParts}
@@ -84,7 +84,8 @@ module _ (q : Query) (alt : Alt) where
   asked_of_one (first ∷ second ∷ third ∷ groups) wishes are group below asked = absurd are
 
 -- the group of a key is one, so what is asked is asked of that group
-module _ (q : Query) (key : Key) (wanted : Request) (group : KeyParts) (only : (other : KeyParts) → Names q key other
+module _ (q : Query) (key : Key) (wanted : Request) (group : KeyParts)
+    (only : (other : KeyParts) → NamesGroup q key other
     → other ≡ group) where
   pub goal_of_key : (child : GoalKind) → IsGoalAsked q (Some (key, wanted)) child → child ≡ Opt group wanted
   goal_of_key child (other, below, asks, is) = is ∙ ap (λ (g : KeyParts). Opt g below) (only other asks.0)

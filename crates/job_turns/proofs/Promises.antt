@@ -21,23 +21,23 @@ use Rattle.goal_space.specs.declared.goals.GoalKind.{GoalKind}
 use Rattle.goal_rules.specs.Meaning.{meaning_of}
 use Rattle.goal_rules.specs.declared.rules.Rules.{Rules}
 use Rattle.job_turns.specs.Laws.{ChildrenAreKnown, AskedAreKnown}
-use Rattle.job_turns.specs.Works.{Adds, HasAwaited, WorksOn}
+use Rattle.job_turns.specs.Works.{AddsWord, HasAwaited, WorksOn}
 
 module _ (q : Query) (children : ChildrenAreKnown q) (small : IsWithinLimits q) (goal : GoalKind) where
   -- a child's word may be put in
-  pub child_adds : (word : ℕ) → NamesGoal q word goal → (child : ℕ) → IsChildWord q word child → Adds q goal child
+  pub child_adds : (word : ℕ) → NamesGoal q word goal → (child : ℕ) → IsChildWord q word child → AddsWord q goal child
   child_adds word names child is = inl (children small goal word child names is)
 
   pub goes_on : (v : Hands Rules) (before : Right) (w : Hands Rules) (after : Right) → NamesGoal q before.goal goal
-      → Proceeds (IsChildWord q before.goal) v before w after → Proceeds (Adds q goal) v before w after
-  goes_on v before w after names t = proceeds_wider (IsChildWord q before.goal) (Adds q goal)
+      → Proceeds (IsChildWord q before.goal) v before w after → Proceeds (AddsWord q goal) v before w after
+  goes_on v before w after names t = proceeds_wider (IsChildWord q before.goal) (AddsWord q goal)
       (child_adds before.goal names) v before w after t
 
   pub runs_out : (capacity : ℕ) (v : Hands Rules) (before : Right) (w : Hands Rules) (after : Right)
       → NamesGoal q before.goal goal → RunsOut (IsChildWord q before.goal) v before capacity w after
-      → RunsOut (Adds q goal) v before capacity w after
+      → RunsOut (AddsWord q goal) v before capacity w after
   runs_out capacity v before w after names t =
-      runs_out_wider (IsChildWord q before.goal) (Adds q goal) (child_adds before.goal names) capacity v before w
+      runs_out_wider (IsChildWord q before.goal) (AddsWord q goal) (child_adds before.goal names) capacity v before w
       after t
 
   -- the promise is shown where all children are shown finished, and all that the goal asks for in cells
@@ -62,7 +62,7 @@ module _ (q : Query) (children : ChildrenAreKnown q) (small : IsWithinLimits q) 
       → IsDoneUnlessWaiting after (record { cost = 0; node = 0 }) result
       → WorksOn q capacity v before goal result w after
   works_of_children asked nothing is_answer Wanted all capacity v before w after result names t done =
-      works_end (meaning_of q) capacity (Adds q goal) v before w after (record { cost = 0; node = 0 }) result
+      works_end (meaning_of q) capacity (AddsWord q goal) v before w after (record { cost = 0; node = 0 }) result
       (goes_on v before w after names t.proceeds)
       (λ none. promise_shown asked capacity w.looks before.goal names (λ child is. t.finished none child (all child is))
       (λ e asks. absurd (nothing e asks)))

@@ -36,7 +36,7 @@ use Rattle.goal_rules.specs.Meaning.{meaning_of}
 use Rattle.goal_rules.specs.declared.rules.Rules.{Rules}
 use Rattle.job_turns.specs.Laws.{ChildrenAreKnown, AskedAreKnown}
 use Rattle.job_turns.specs.Results.{IsBroughtAt, IsBroughtWith, IsBroughtBelow, IsBroughtFrom, IsLeftOf}
-use Rattle.job_turns.specs.Works.{Adds, HasPut, WorksOn}
+use Rattle.job_turns.specs.Works.{AddsWord, HasPut, WorksOn}
 use Rattle.job_turns.proofs.Promises.{promise_shown}
 
 -- a bound member that fits has a word
@@ -76,19 +76,20 @@ module _ (q : Query) (children : ChildrenAreKnown q) (asked : AskedAreKnown q) (
     (e : ExprParts)
     (rule : Rule) where
   asked_adds : (word : ℕ) → NamesGoal q word (Xf e rule) → (other : ℕ) → IsAskedWord q word other
-      → Adds q (Xf e rule) other
+      → AddsWord q (Xf e rule) other
   asked_adds word names other is = inr (asked small (Xf e rule) word other names is)
 
   pub results_run_out : (capacity : ℕ) (v : Hands Rules) (before : Right) (w : Hands Rules) (after : Right)
       → NamesGoal q before.goal (Xf e rule) → RunsOut (IsAskedWord q before.goal) v before capacity w after
-      → RunsOut (Adds q (Xf e rule)) v before capacity w after
+      → RunsOut (AddsWord q (Xf e rule)) v before capacity w after
   results_run_out capacity v before w after names t =
-      runs_out_wider (IsAskedWord q before.goal) (Adds q (Xf e rule)) (asked_adds before.goal names) capacity v before w
+      runs_out_wider (IsAskedWord q before.goal) (AddsWord q (Xf e rule)) (asked_adds before.goal names) capacity v
+      before w
       after t
 
   -- the end of the work, once what the rule brings is put in
   pub rule_works : (capacity : ℕ) (v u w : Hands Rules) (start middle : Right) (Wanted : ExprParts → Type 0)
-      (came : Progress) → NamesGoal q start.goal (Xf e rule) → Proceeds (Adds q (Xf e rule)) v start u middle
+      (came : Progress) → NamesGoal q start.goal (Xf e rule) → Proceeds (AddsWord q (Xf e rule)) v start u middle
       → HasPut q capacity u middle Wanted w → (middle.waits ≡ 0 → (child : GoalKind)
       → IsChildGoal (IsMember q) q (Xf e rule) child → ShowsFinished (meaning_of q) capacity u.looks (goal_word child))
       → ((x : ExprParts) → AsksFor q (Xf e rule) x → Wanted x)
@@ -97,13 +98,14 @@ module _ (q : Query) (children : ChildrenAreKnown q) (asked : AskedAreKnown q) (
   rule_works capacity v u w start middle Wanted came names first put finished wanted done =
       let named : NamesGoal q middle.goal (Xf e rule) =
       subst (λ k. NamesGoal q k (Xf e rule)) (sym first.same_goal) names in
-      let then = proceeds_wider (IsAskedWord q middle.goal) (Adds q (Xf e rule)) (asked_adds middle.goal named) u middle
+      let then =
+      proceeds_wider (IsAskedWord q middle.goal) (AddsWord q (Xf e rule)) (asked_adds middle.goal named) u middle
       w middle put.proceeds in
-      works_end (meaning_of q) capacity (Adds q (Xf e rule)) v start w middle (record { cost = 0; node = 0 }) came
-      (proceeds_then (Adds q (Xf e rule)) v start u middle w middle first then)
+      works_end (meaning_of q) capacity (AddsWord q (Xf e rule)) v start w middle (record { cost = 0; node = 0 }) came
+      (proceeds_then (AddsWord q (Xf e rule)) v start u middle w middle first then)
       (λ none. promise_shown q children small (Xf e rule) asked capacity w.looks start.goal names
       (λ child is. still_finished (meaning_of q) capacity u.looks w.looks
-      (later_proceeded (Adds q (Xf e rule)) u middle w middle then) (goal_word child) (finished none child is))
+      (later_proceeded (AddsWord q (Xf e rule)) u middle w middle then) (goal_word child) (finished none child is))
       (λ x asks. put.shown x (wanted x asks)))
       (record { goal = Xf e rule; names = names; answer = no_choice; is_answer = refl; words = (refl, refl) }) done
 

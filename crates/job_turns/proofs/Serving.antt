@@ -30,8 +30,8 @@ use Rattle.goal_space.specs.Answers.{IsAnswerTo}
 use Rattle.goal_space.specs.declared.goals.GoalKind.{GoalKind}
 use Rattle.goal_space.specs.declared.goals.GoalKind.TheVariants.{OptE}
 use Rattle.job_turns.specs.Requests.{IsMemberGoal, IsGoalOfMember, IsBestOfMember, IsBestOfMembers, first_enforcers}
-use Rattle.job_turns.specs.Choices.{FindsChoice, choice_of_both}
-use Rattle.job_turns.specs.declared.choice.Choice.{Choice}
+use Rattle.job_turns.specs.Choices.{FindsBest, best_of_both}
+use Rattle.job_turns.specs.declared.known_best.KnownBest.{KnownBest}
 use Rattle.job_turns.proofs.Enforced.{first_has}
 use Rattle.job_turns.proofs.Finding.{finds_both, finds_others}
 
@@ -107,15 +107,15 @@ module _ (q : Query) (group : KeyParts) (wanted : Request) where
     -- one candidate more was tried
     pub finds_more : (capacity : ℕ) (v : Hands Rules) (before : Right) → LesserIsBest q → (props : Props)
         → IsProps q props
-        → Fits q group wanted → (one other : Choice) (u : Hands Rules) (middle : Right) (w : Hands Rules)
+        → Fits q group wanted → (one other : KnownBest) (u : Hands Rules) (middle : Right) (w : Hands Rules)
         (after : Right)
-        → FindsChoice q capacity v before (IsMemberGoalAmong (take i candidates)) (IsBestAmong (take i candidates))
+        → FindsBest q capacity v before (IsMemberGoalAmong (take i candidates)) (IsBestAmong (take i candidates))
         one u
         middle
-        → FindsChoice q capacity u middle (IsGoalOfMember q (get_or candidates i d).expr wanted)
+        → FindsBest q capacity u middle (IsGoalOfMember q (get_or candidates i d).expr wanted)
         (IsBestOfMember q (get_or candidates i d).expr wanted) other w after
-        → FindsChoice q capacity v before (IsMemberGoalAmong (take (i + 1) candidates))
-        (IsBestAmong (take (i + 1) candidates)) (choice_of_both one other) w after
+        → FindsBest q capacity v before (IsMemberGoalAmong (take (i + 1) candidates))
+        (IsBestAmong (take (i + 1) candidates)) (best_of_both one other) w after
     finds_more capacity v before lesser_best props is_props fits one other u middle w after so_far last =
         let new = get_or candidates i d in
         let tried = take i candidates in
@@ -125,11 +125,11 @@ module _ (q : Query) (group : KeyParts) (wanted : Request) where
         (best_more tried new lesser_best props is_props fits (are.sound i d within).of_group) one other u middle w after
         so_far last in
         subst (λ (list : List PhysicalCandidate).
-        FindsChoice q capacity v before (IsMemberGoalAmong list) (IsBestAmong list) (choice_of_both one other) w after)
+        FindsBest q capacity v before (IsMemberGoalAmong list) (IsBestAmong list) (best_of_both one other) w after)
         (sym (take_more candidates i d within))
         (finds_others q capacity v before (λ (child : GoalKind). IsMemberGoalAmong tried child
         ⊎ IsGoalOfMember q new.expr wanted child) (IsMemberGoalAmong more) (IsBestAmong more) (IsBestAmong more)
-        (member_goal_more tried new) (λ best is. is) (choice_of_both one other) w after both)
+        (member_goal_more tried new) (λ best is. is) (best_of_both one other) w after both)
 
   module _ (members : (e : ExprParts) → IsMember q e → IsCandidate q e) (candidates : List PhysicalCandidate)
       (are : ArePhysicalOf q group candidates) where

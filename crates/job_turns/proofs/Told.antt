@@ -18,8 +18,8 @@ use Rattle.goal_rules.specs.Meaning.{meaning_of}
 use Rattle.goal_rules.specs.Answers.{AreWordsOf}
 use Rattle.goal_rules.specs.declared.rules.Rules.{Rules}
 use Rattle.job_turns.specs.Works.{IsChildOf}
-use Rattle.job_turns.specs.Choices.{most_word, AnswersAreKnown, FindsChoice}
-use Rattle.job_turns.specs.declared.choice.Choice.TheVariants.{Known}
+use Rattle.job_turns.specs.Choices.{most_word, AnswersAreKnown, FindsBest}
+use Rattle.job_turns.specs.declared.known_best.KnownBest.TheVariants.{Known}
 use Rattle.job_turns.proofs.Awaited.{has_one}
 
 module _ (q : Query) (capacity : ℕ) where
@@ -34,7 +34,7 @@ module _ (q : Query) (capacity : ℕ) where
       → (best : Option Best)
       → ((other : Option Best) → AreWordsOf other answer.cost answer.node → IfSome other (λ b. b.cost < most_word)
       → best ≡ other)
-      → FindsChoice q capacity v before (λ goal. goal ≡ child) (IsAnswerTo q child) (Known best) w after
+      → FindsBest q capacity v before (λ goal. goal ≡ child) (IsAnswerTo q child) (Known best) w after
   known_child small known v before child is answer w after t best only =
       let told = known small child (goal_word child) answer.cost answer.node (names_child before.goal child is)
       t.2.exact in

@@ -1,7 +1,7 @@
 -- What the turn of a goal that chooses the least plan for a request finds.
 use Rattle.std.specs.Prelude.{◌≡◌, ℕ, ◌-◌, ◌^◌, ◌<◌, ◌≤◌, Option, None, Some, IfSome, Bool, true, false}
 use Rattle.query_core.specs.Expressions.{expr_of, physical_children}
-use Rattle.query_core.specs.Keys.{Names}
+use Rattle.query_core.specs.Keys.{NamesGroup}
 use Rattle.query_core.specs.declared.query.Query.{Query}
 use Rattle.query_core.specs.declared.words.Key.{Key}
 use Rattle.query_core.specs.declared.words.KeyParts.{KeyParts}
@@ -36,9 +36,9 @@ use Rattle.goal_space.specs.declared.goals.GoalKind.TheVariants.{Opt}
 use Rattle.goal_rules.specs.Answers.{AreWordsOf, IsAnswerWord}
 use Rattle.goal_rules.specs.declared.rules.Rules.{Rules}
 use Rattle.job_turns.specs.Works.{IsChildOf, HasAwaited}
-use Rattle.job_turns.specs.declared.choice.Choice.{Choice}
-use Rattle.job_turns.specs.declared.choice.Choice.TheVariants.{Known, Open}
-use Rattle.job_turns.specs.declared.modes.Native.{Native}
+use Rattle.job_turns.specs.declared.known_best.KnownBest.{KnownBest}
+use Rattle.job_turns.specs.declared.known_best.KnownBest.TheVariants.{Known, Open}
+use Rattle.job_turns.specs.declared.modes.WantedNative.{WantedNative}
 
 -- ---- answers in words
 
@@ -61,26 +61,26 @@ AnswersAreKnown q = IsWithinLimits q → (goal : GoalKind) (word cost node : ℕ
 -- ---- choices
 
 -- what is known of the best answer of both
-abbrev pub choice_of_both : Choice → Choice → Choice
-choice_of_both (Known first) (Known second) = Known (lesser first second)
-choice_of_both (Known first) Open = Open
-choice_of_both Open second = Open
+abbrev pub best_of_both : KnownBest → KnownBest → KnownBest
+best_of_both (Known first) (Known second) = Known (lesser first second)
+best_of_both (Known first) Open = Open
+best_of_both Open second = Open
 
 -- the answer that is known is one of these, or the right has a wait
-abbrev pub IsChoice : (Option Best → Type 0) → Right → Choice → Type 0
-IsChoice Is right (Known best) = Is best
-IsChoice Is right Open = 1 ≤ right.waits
+abbrev pub IsKnownBest : (Option Best → Type 0) → Right → KnownBest → Type 0
+IsKnownBest Is right (Known best) = Is best
+IsKnownBest Is right Open = 1 ≤ right.waits
 
 module _ (q : Query) (capacity : ℕ) (v : Hands Rules) (before : Right) (Wanted : GoalKind → Type 0) (Is : Option Best
     → Type 0) where
   -- these goals were awaited, and the answer over theirs is one of these
-  pub record FindsChoice (choice : Choice) (w : Hands Rules) (after : Right) : Type 0 where
+  pub record FindsBest (known_best : KnownBest) (w : Hands Rules) (after : Right) : Type 0 where
     pub awaited : HasAwaited q capacity v before Wanted w after
-    pub is : IsChoice Is after choice
+    pub is : IsKnownBest Is after known_best
 
   -- or one of the goals found no cell
-  abbrev pub Chooses : Option Choice → Hands Rules → Right → Type 0
-  Chooses (Some choice) w after = FindsChoice choice w after
+  abbrev pub Chooses : Option KnownBest → Hands Rules → Right → Type 0
+  Chooses (Some known_best) w after = FindsBest known_best w after
   Chooses None w after = RunsOut (IsChildWord q before.goal) v before capacity w after
 
 -- children of the goal were put in, or found in cells, or one of them found no cell
@@ -90,7 +90,7 @@ PutsChildren q capacity v right false w = RunsOut (IsChildWord q right.goal) v r
 
 -- complete with the words of what is known where the right has no wait, and else waiting; full where a goal found no
 -- cell
-abbrev pub IsProgressOf : Right → Option Choice → Progress → Type 0
+abbrev pub IsProgressOf : Right → Option KnownBest → Progress → Type 0
 IsProgressOf right (Some (Known best)) (progress.Complete answer) = (right.waits ≡ 0)
     × AreWordsOf best answer.cost answer.node
 IsProgressOf right (Some (Known best)) progress.Waiting = 1 ≤ right.waits
@@ -101,7 +101,7 @@ IsProgressOf right None result = result ≡ progress.Full
 -- ---- the modes of an expression
 
 -- the expression is a member of a group that the request fits; its line in the mode, and the rows of its groups
-pub record IsNative (q : Query) (native : Native) : Type 0 where
+pub record IsWantedNative (q : Query) (native : WantedNative) : Type 0 where
   pub member : IsMember q (expr_of native.expr)
   pub fits : Fits q native.expr.group native.wanted
   pub rows : AreRowsOf q native.expr native.rows
@@ -111,7 +111,8 @@ pub record IsNative (q : Query) (native : Native) : Type 0 where
 -- the goal of what is asked, if something is, is a child of the goal with the word
 abbrev pub IsAskedByChild : Query → ℕ → Option (Key × Request) → Type 0
 IsAskedByChild q word None = Unit {0}
-IsAskedByChild q word (Some asked) = (group : KeyParts) × Names q asked.0 group × IsChildOf q word (Opt group asked.1)
+IsAskedByChild q word (Some asked) = (group : KeyParts) × NamesGroup q asked.0 group
+    × IsChildOf q word (Opt group asked.1)
 
 -- the goal of what is asked
 abbrev pub IsGoalAsked : Query → Option (Key × Request) → GoalKind → Type 0

@@ -5,7 +5,7 @@ use Rattle.query_core.specs.declared.query.Query.{Query}
 use Rattle.query_core.specs.declared.expressions.ExprParts.{ExprParts}
 use Rattle.xform_rules.specs.Closure.{IsMember}
 use Rattle.request_props.specs.Numbered.{IsWithinLimits}
-use Rattle.goal_space.specs.Words.{goal_word, IsInRange}
+use Rattle.goal_space.specs.Words.{goal_word, IsGoalInRange}
 use Rattle.goal_space.specs.Children.{IsChildGoal}
 use Rattle.goal_space.specs.Asked.{AsksFor}
 use Rattle.goal_space.specs.Entries.{NamesGoal, IsChildWord, IsAskedWord}
@@ -27,4 +27,4 @@ AskedAreKnown q = IsWithinLimits q → (goal : GoalKind) (word asked : ℕ) → 
 abbrev pub ChildrenHaveWords : Query → Type 0
 ChildrenHaveWords q = IsWithinLimits q → (goal other : GoalKind) (word : ℕ) → NamesGoal q word goal
     → IsChildGoal (IsMember q) q goal other
-    → IsChildWord q word (goal_word other) × IsInRange other
+    → IsChildWord q word (goal_word other) × IsGoalInRange other

@@ -8,7 +8,7 @@ use Rattle.board_moves.specs.Turns.{Turns}
 use Rattle.goal_space.specs.Entries.{NamesGoal}
 use Rattle.goal_space.specs.declared.goals.GoalKind.{GoalKind}
 use Rattle.goal_rules.specs.declared.rules.Rules.{Rules}
-use Rattle.job_turns.specs.Works.{Adds}
+use Rattle.job_turns.specs.Works.{AddsWord}
 
 -- the turn of the right's goal; what it puts in is a child of that goal, a member that the goal's rule brings, or the
 -- origin of the group that the goal explores
@@ -16,4 +16,4 @@ pub record TurnsGoal (q : Query) (capacity : ℕ) (v : Hands Rules) (right : Rig
     (w : Hands Rules) : Type 0 where
   pub goal : GoalKind
   pub names : NamesGoal q right.goal goal
-  pub turns : Turns capacity (Adds q goal) v right worker turned w
+  pub turns : Turns capacity (AddsWord q goal) v right worker turned w

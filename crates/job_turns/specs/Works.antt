@@ -31,8 +31,8 @@ Brings q (Opt group wanted) e = ⊥
 Brings q (OptE x wanted) e = ⊥
 
 -- the words that the turn of a goal may put in: its children, and the members that it brings
-abbrev pub Adds : Query → GoalKind → ℕ → Type 0
-Adds q goal word =
+abbrev pub AddsWord : Query → GoalKind → ℕ → Type 0
+AddsWord q goal word =
     ((child : GoalKind) × IsChildGoal (IsMember q) q goal child × (goal_word child ≡ word))
     ⊎ ((e : ExprParts) × Brings q goal e × (word_of e ≡ word))
 
@@ -54,7 +54,7 @@ module _ (q : Query) (capacity : ℕ) (v : Hands Rules) (before : Right) where
 
   -- the work of the goal is done, or waits, or found no cell
   abbrev pub WorksOn : GoalKind → Progress → Hands Rules → Right → Type 0
-  WorksOn goal progress w after = Works (meaning_of q) capacity (Adds q goal) v before progress w after
+  WorksOn goal progress w after = Works (meaning_of q) capacity (AddsWord q goal) v before progress w after
 
 -- one of the goals that are there
 abbrev pub IsOneOf : Option GoalKind × Option GoalKind → GoalKind → Type 0

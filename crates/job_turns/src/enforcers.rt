@@ -10,7 +10,7 @@ ghost use Rattle.job_turns.specs.Searches.{IsAtWork};
 ghost use Rattle.job_turns.specs.Choices.{Chooses, PutsChildren};
 ghost use Rattle.job_turns.specs.Requests.{IsEnforcerGoal, IsEnforcerGoalAt, enforcer_at, first_enforcers};
 
-use crate::choice::{Choice, await_choice, put_child};
+use crate::known_best::{KnownBest, await_best, put_child};
 use crate::laws::words_are_known;
 use best_answers::{answers_are_best, best_of_enforcer};
 use board_moves::Job;
@@ -31,7 +31,7 @@ pub(crate) fn best_enforcer<'q, H: Hints>(
     group: KeyParts,
     wanted: Request,
     hints: &mut H,
-) -> Option<Choice>
+) -> Option<KnownBest>
     requires props { IsProps query.now props.now }
     requires at_work { IsAtWork query.now board.now seat.old job.old (H.capacity hints.old) }
     requires goal { NamesGoal query.now job.old.right.goal (Opt group wanted) }
@@ -114,7 +114,7 @@ fn await_enforcer<'q, H: Hints>(
     wanted: Request,
     place: u32,
     hints: &mut H,
-) -> Option<Choice>
+) -> Option<KnownBest>
     requires props { IsProps query.now props.now }
     requires at_work { IsAtWork query.now board.now seat.old job.old (H.capacity hints.old) }
     requires goal { NamesGoal query.now job.old.right.goal (Opt group wanted) }
@@ -132,15 +132,15 @@ fn await_enforcer<'q, H: Hints>(
         Some(enforced) => {
             let child = GoalKind::Opt(group, enforced.below);
             let word = child.word();
-            let found = await_choice(query, board, seat, job, child, word, hints)?;
+            let found = await_best(query, board, seat, job, child, word, hints)?;
             match found {
-                Choice::Known(below) => {
+                KnownBest::Known(below) => {
                     let best = best_of_enforcer(query, props, group, wanted, enforced, below);
-                    Some(Choice::Known(best))
+                    Some(KnownBest::Known(best))
                 }
-                Choice::Open => Some(Choice::Open),
+                KnownBest::Open => Some(KnownBest::Open),
             }
         }
-        None => Some(Choice::Known(None)),
+        None => Some(KnownBest::Known(None)),
     }
 }

@@ -4,7 +4,7 @@
 ghost use Rattle.std.specs.Prelude.{◌≡◌, ◌↔◌, Some};
 ghost use Rattle.query_core.specs.Expressions.{children_of};
 ghost use Rattle.goal_space.specs.Entries.{NamesGoal};
-ghost use Rattle.goal_space.specs.declared.goals.GoalKind.{GoalKind as Kind};
+ghost use Rattle.goal_space.specs.declared.goals.GoalKind.{GoalKind as AnyGoalKind};
 ghost use Rattle.goal_space.specs.Phases.{phase_goal_of_expr, IsOfGroups, IsOfRule, IsRuleAt};
 ghost use Rattle.job_turns.specs.Searches.{IsAtWork};
 ghost use Rattle.job_turns.specs.Works.{IsOneOf};
@@ -54,7 +54,7 @@ pub(crate) fn transform_expression<'q, H: Hints>(
 
 // The goals of the children's groups in the phase.
 fn group_goals(phase: Phase, e: ExprParts) -> (Option<GoalKind>, Option<GoalKind>)
-    ensures { (goal : Kind) → IsOneOf result goal ↔ IsOfGroups phase (children_of e.operator) goal }
+    ensures { (goal : AnyGoalKind) → IsOneOf result goal ↔ IsOfGroups phase (children_of e.operator) goal }
 {
     match e.children() {
         Children::Zero => (None, None),
@@ -91,7 +91,7 @@ fn await_rules<'q, H: Hints>(
 
 // The goal of the rule at the expression, if the rule is one of the phase and applies.
 fn rule_goal(query: &Query, phase: Phase, e: ExprParts, rule: Rule) -> Option<GoalKind>
-    ensures { (goal : Kind) → (result ≡ Some goal) ↔ IsOfRule query.now phase e rule goal }
+    ensures { (goal : AnyGoalKind) → (result ≡ Some goal) ↔ IsOfRule query.now phase e rule goal }
 {
     if phase.tries(query, e, rule) {
         Some(GoalKind::Xf(e, rule))

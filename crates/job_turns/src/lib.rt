@@ -1,11 +1,11 @@
 //! The turns of the jobs: what each kind of goal does once it is claimed.
 #![tactic(auto)]
 
-mod choice;
 mod enforcers;
 mod expressions;
 mod group_members;
 mod groups;
+mod known_best;
 mod laws;
 mod made_joins;
 mod members;

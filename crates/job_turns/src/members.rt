@@ -4,7 +4,7 @@
 ghost use Rattle.xform_rules.specs.Closure.{IsMember};
 ghost use Rattle.request_props.specs.Candidates.{IsPhysicalOf};
 ghost use Rattle.request_props.specs.Numbered.{IsProps, IsNumbered};
-ghost use Rattle.request_props.specs.Requests.{IsInRange};
+ghost use Rattle.request_props.specs.Requests.{IsRequestInRange};
 ghost use Rattle.goal_board.specs.Seats.{hands};
 ghost use Rattle.board_moves.specs.Moves.{OnlyLooks};
 ghost use Rattle.goal_space.specs.Entries.{NamesGoal};
@@ -14,7 +14,7 @@ ghost use Rattle.job_turns.specs.Choices.{Chooses};
 ghost use Rattle.job_turns.specs.Requests.{IsImplemented, IsMemberGoal, IsBestOfMembers};
 ghost use Rattle.job_turns.specs.Requests.{IsGoalOfMember, IsBestOfMember, IsWordOfMember};
 
-use crate::choice::{Choice, await_choice};
+use crate::known_best::{KnownBest, await_best};
 use crate::made_joins::is_made;
 use crate::words::member_goal;
 use best_answers::answers_are_best;
@@ -37,7 +37,7 @@ pub(crate) fn best_member<'q, H: Hints>(
     group: KeyParts,
     wanted: Request,
     hints: &mut H,
-) -> Option<Choice>
+) -> Option<KnownBest>
     requires props { IsProps query.now props.now }
     requires at_work { IsAtWork query.now board.now seat.old job.old (H.capacity hints.old) }
     requires goal { NamesGoal query.now job.old.right.goal (Opt group wanted) }
@@ -52,12 +52,12 @@ pub(crate) fn best_member<'q, H: Hints>(
     members_are_candidates();
     answers_are_best();
     let candidates = props.physical_of(query, group);
-    let mut choice = Choice::Known(None);
+    let mut known_best = KnownBest::Known(None);
     for candidate in candidates {
         let other = await_candidate(query, props, board, seat, job, *candidate, wanted, hints)?;
-        choice = choice.or(other);
+        known_best = known_best.or(other);
     }
-    Some(choice)
+    Some(known_best)
 }
 
 // The best answer of a candidate, if it is a member that may serve the request. None where its goal found every
@@ -71,7 +71,7 @@ fn await_candidate<'q, H: Hints>(
     candidate: PhysicalCandidate,
     wanted: Request,
     hints: &mut H,
-) -> Option<Choice>
+) -> Option<KnownBest>
     requires props { IsProps query.now props.now }
     requires at_work { IsAtWork query.now board.now seat.old job.old (H.capacity hints.old) }
     requires candidate { IsPhysicalOf query.now candidate.expr.group candidate }
@@ -90,9 +90,9 @@ fn await_candidate<'q, H: Hints>(
     match goal_here(query, props, board, seat, candidate, wanted) {
         Some(goal) => {
             let child = GoalKind::OptE(candidate.expr, wanted);
-            await_choice(query, board, seat, job, child, goal, hints)
+            await_best(query, board, seat, job, child, goal, hints)
         }
-        None => Some(Choice::Known(None)),
+        None => Some(KnownBest::Known(None)),
     }
 }
 
@@ -110,7 +110,7 @@ fn goal_here<'q>(
     requires seat { IsSeat board.now seat.old }
     requires candidate { IsPhysicalOf query.now candidate.expr.group candidate }
     requires numbered { IsNumbered query.now wanted.order }
-    requires in_range { IsInRange wanted }
+    requires in_range { IsRequestInRange wanted }
     requires implemented { IsImplemented query.now board.now.setup.capacity
         (hands seat.old).looks candidate.expr.group }
     ensures seat { IsSeat board.now seat.new }

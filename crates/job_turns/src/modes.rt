@@ -15,9 +15,9 @@ ghost use Rattle.goal_space.specs.Answers.{IsAnswerTo};
 ghost use Rattle.goal_space.specs.declared.goals.GoalKind.TheVariants.{OptE};
 ghost use Rattle.job_turns.specs.Searches.{IsAtWork};
 ghost use Rattle.job_turns.specs.Seats.{SeatWorks};
-ghost use Rattle.job_turns.specs.Choices.{Chooses, IsNative, IsAskedByChild, IsGoalAsked, IsGoalIn, IsBestIn};
+ghost use Rattle.job_turns.specs.Choices.{Chooses, IsWantedNative, IsAskedByChild, IsGoalAsked, IsGoalIn, IsBestIn};
 
-use crate::choice::{Choice, await_choice, progress_of};
+use crate::known_best::{KnownBest, await_best, progress_of};
 use crate::laws::words_are_known;
 use crate::words::group_goal;
 use best_answers::{answers_are_best, best_in_mode};
@@ -33,7 +33,7 @@ use xform_rules::members_are_candidates;
 
 /// An expression in a mode, for a request, with its line there and the rows of its groups.
 #[derive(Clone, Copy)]
-pub(crate) struct Native {
+pub(crate) struct WantedNative {
     pub(crate) expr: PhysicalExpr,
     pub(crate) wanted: Request,
     pub(crate) rows: ExprRows,
@@ -76,7 +76,7 @@ fn best_mode<'q, H: Hints>(
     expr: PhysicalExpr,
     wanted: Request,
     hints: &mut H,
-) -> Option<Choice>
+) -> Option<KnownBest>
     requires props { IsProps query.now props.now }
     requires at_work { IsAtWork query.now board.now seat.old job.old (H.capacity hints.old) }
     requires goal { NamesGoal query.now job.old.right.goal (OptE expr wanted) }
@@ -92,13 +92,13 @@ fn best_mode<'q, H: Hints>(
     members_are_candidates();
     answers_are_best();
     let rows = expr_rows(query, props, expr);
-    let mut choice = Choice::Known(None);
+    let mut known_best = KnownBest::Known(None);
     let modes = modes_to_try(query, props, expr, wanted);
     let mut from = 0;
     'modes: while let Some((mode, line)) = next_alternative(
         query, props, expr, wanted, modes, from,
     ) {
-        let native = Native {
+        let native = WantedNative {
             expr,
             wanted,
             rows,
@@ -106,10 +106,10 @@ fn best_mode<'q, H: Hints>(
             line,
         };
         let other = await_mode(query, board, seat, job, &native, hints)?;
-        choice = choice.or(other);
+        known_best = known_best.or(other);
         from = mode + 1;
     }
-    Some(choice)
+    Some(known_best)
 }
 
 // The best answer of the expression in the mode, which is there for the request.
@@ -118,11 +118,11 @@ fn await_mode<'q, H: Hints>(
     board: &Board<Rules<'q>>,
     seat: &mut Seat<Rules<'q>>,
     job: &mut Job,
-    native: &Native,
+    native: &WantedNative,
     hints: &mut H,
-) -> Option<Choice>
+) -> Option<KnownBest>
     requires at_work { IsAtWork query.now board.now seat.old job.old (H.capacity hints.old) }
-    requires native { IsNative query.now native.now }
+    requires native { IsWantedNative query.now native.now }
     requires alternative { IsAlternative query.now native.now.expr native.now.wanted native.now.mode
         native.now.line }
     requires goal { NamesGoal query.now job.old.right.goal (OptE native.now.expr native.now.wanted) }
@@ -144,12 +144,12 @@ fn await_alternative<'q, H: Hints>(
     board: &Board<Rules<'q>>,
     seat: &mut Seat<Rules<'q>>,
     job: &mut Job,
-    native: &Native,
+    native: &WantedNative,
     alt: Alt,
     hints: &mut H,
-) -> Option<Choice>
+) -> Option<KnownBest>
     requires at_work { IsAtWork query.now board.now seat.old job.old (H.capacity hints.old) }
-    requires native { IsNative query.now native.now }
+    requires native { IsWantedNative query.now native.now }
     requires alternative { IsAltBy query.now native.now.expr native.now.wanted native.now.mode alt
         native.now.line }
     requires goal { NamesGoal query.now job.old.right.goal (OptE native.now.expr native.now.wanted) }
@@ -162,7 +162,7 @@ fn await_alternative<'q, H: Hints>(
     let left = await_asked(query, board, seat, job, alt.left, hints)?;
     let right = await_asked(query, board, seat, job, alt.right, hints)?;
     match (left, right) {
-        (Choice::Known(left), Choice::Known(right)) => {
+        (KnownBest::Known(left), KnownBest::Known(right)) => {
             let best = best_in_mode(
                 query,
                 native.expr,
@@ -172,10 +172,10 @@ fn await_alternative<'q, H: Hints>(
                 alt,
                 (left, right),
             );
-            Some(Choice::Known(best))
+            Some(KnownBest::Known(best))
         }
-        (Choice::Known(_), Choice::Open) => Some(Choice::Open),
-        (Choice::Open, _) => Some(Choice::Open),
+        (KnownBest::Known(_), KnownBest::Open) => Some(KnownBest::Open),
+        (KnownBest::Open, _) => Some(KnownBest::Open),
     }
 }
 
@@ -187,7 +187,7 @@ fn await_asked<'q, H: Hints>(
     job: &mut Job,
     asked: Option<(Key, Request)>,
     hints: &mut H,
-) -> Option<Choice>
+) -> Option<KnownBest>
     requires at_work { IsAtWork query.now board.now seat.old job.old (H.capacity hints.old) }
     requires asked { IsAskedByChild query.now job.old.right.goal asked }
     ensures at_work { IsAtWork query.now board.now seat.new job.new (H.capacity hints.new) }
@@ -202,8 +202,8 @@ fn await_asked<'q, H: Hints>(
         Some((key, wanted)) => {
             let child = GoalKind::Opt(query.group(key), wanted);
             let word = group_goal(key, wanted);
-            await_choice(query, board, seat, job, child, word, hints)
+            await_best(query, board, seat, job, child, word, hints)
         }
-        None => Some(Choice::Known(None)),
+        None => Some(KnownBest::Known(None)),
     }
 }

@@ -5,7 +5,7 @@ ghost use Rattle.std.specs.Prelude.{◌≡◌, ◌<◌, ℕ};
 ghost use Rattle.request_props.specs.Numbered.{IsProps};
 ghost use Rattle.goal_board.specs.Seats.{hands};
 ghost use Rattle.goal_space.specs.Entries.{NamesGoal};
-ghost use Rattle.goal_space.specs.declared.goals.GoalKind.{GoalKind as Kind};
+ghost use Rattle.goal_space.specs.declared.goals.GoalKind.{GoalKind as AnyGoalKind};
 ghost use Rattle.job_turns.specs.Searches.{IsSeat, HasRight, IsAtWork};
 ghost use Rattle.job_turns.specs.Seats.{SeatWorks};
 ghost use Rattle.job_turns.specs.Turns.{TurnsGoal};

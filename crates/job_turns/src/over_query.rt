@@ -6,7 +6,7 @@ ghost use Rattle.job_turns.specs.Searches.{IsAtWork};
 ghost use Rattle.job_turns.specs.Works.{IsChildOf, IsOneOf};
 ghost use Rattle.job_turns.specs.Seats.{AreChildrenOf, SeatAwaitsOne, SeatAwaits};
 ghost use Rattle.goal_space.specs.Words.{goal_word};
-ghost use Rattle.goal_space.specs.declared.goals.GoalKind.{GoalKind as Kind};
+ghost use Rattle.goal_space.specs.declared.goals.GoalKind.{GoalKind as AnyGoalKind};
 
 use crate::laws::words_are_known;
 use board_moves::{Job, Progress};
@@ -87,7 +87,7 @@ pub(crate) fn await_if<'q, H: Hints>(
     hints: &mut H,
 ) -> bool
     requires at_work { IsAtWork query.now board.now seat.old job.old (H.capacity hints.old) }
-    requires child { (goal : Kind) → child ≡ Some goal → IsChildOf query.now job.old.right.goal goal }
+    requires child { (goal : AnyGoalKind) → child ≡ Some goal → IsChildOf query.now job.old.right.goal goal }
     ensures at_work { IsAtWork query.now board.now seat.new job.new (H.capacity hints.new) }
     ensures awaits { SeatAwaits query.now board.now seat.old job.old
         (λ goal. child ≡ Some goal) result seat.new job.new }

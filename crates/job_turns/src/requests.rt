@@ -12,8 +12,8 @@ ghost use Rattle.job_turns.specs.Seats.{SeatWorks};
 ghost use Rattle.job_turns.specs.Choices.{Chooses};
 ghost use Rattle.job_turns.specs.Requests.{IsImplemented, IsPlanGoal};
 
-use crate::choice::{Choice, progress_of};
 use crate::enforcers::{best_enforcer, put_enforcers};
+use crate::known_best::{KnownBest, progress_of};
 use crate::laws::words_are_known;
 use crate::members::best_member;
 use crate::over_query::await_goal;
@@ -73,7 +73,7 @@ fn best_plan<'q, H: Hints>(
     group: KeyParts,
     wanted: Request,
     hints: &mut H,
-) -> Option<Choice>
+) -> Option<KnownBest>
     requires props { IsProps query.now props.now }
     requires at_work { IsAtWork query.now board.now seat.old job.old (H.capacity hints.old) }
     requires goal { NamesGoal query.now job.old.right.goal (Opt group wanted) }

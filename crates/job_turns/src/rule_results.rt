@@ -4,8 +4,8 @@
 ghost use Rattle.std.specs.Prelude.{◌≡◌, ◌↔◌, ℕ, Some, IfSome};
 ghost use Rattle.query_core.specs.Keys.{IsGroup};
 ghost use Rattle.query_core.specs.Expressions.{children_of, origin_of, word_of, IsCandidate, IsChild, IsPacked};
-ghost use Rattle.query_core.specs.declared.expressions.ExprParts.{ExprParts as Parts};
-ghost use Rattle.query_core.specs.declared.words.KeyParts.{KeyParts as Key};
+ghost use Rattle.query_core.specs.declared.expressions.ExprParts.{ExprParts as AnyExprParts};
+ghost use Rattle.query_core.specs.declared.words.KeyParts.{KeyParts as AnyKeyParts};
 ghost use Rattle.request_props.specs.Numbered.{IsProps};
 ghost use Rattle.xform_rules.specs.Closure.{IsMember};
 ghost use Rattle.board_rule.specs.Looks.{ShowsEntry};
@@ -70,8 +70,8 @@ fn put_origin<'q>(
     group: Option<KeyParts>,
 ) -> bool
     requires has_job { HasJob query.now board.now seat.old job.now }
-    requires packed { (key : Key) → group ≡ Some key → IsPacked (origin_of query.now key) }
-    requires asked { (key : Key) → group ≡ Some key →
+    requires packed { (key : AnyKeyParts) → group ≡ Some key → IsPacked (origin_of query.now key) }
+    requires asked { (key : AnyKeyParts) → group ≡ Some key →
         IsAskedOf query.now job.now.right.goal (origin_of query.now key) }
     ensures has_job { HasJob query.now board.now seat.new job.now }
     ensures puts { SeatPuts query.now board.now seat.old job.now
@@ -105,7 +105,7 @@ fn put_member<'q>(
 
 // The groups that an expression stands on.
 fn groups_below(e: ExprParts) -> (Option<KeyParts>, Option<KeyParts>)
-    ensures { (group : Key) → IsOneOfGroups result group ↔ IsChild (children_of e.operator) group }
+    ensures { (group : AnyKeyParts) → IsOneOfGroups result group ↔ IsChild (children_of e.operator) group }
 {
     match e.children() {
         Children::Zero => (None, None),
@@ -208,7 +208,7 @@ fn put_result<'q>(
 
 // The left child's group, where the rule binds a member of it.
 fn left_group(e: ExprParts, rule: Rule) -> Option<KeyParts>
-    ensures { (group : Key) → (result ≡ Some group) ↔ IsLeftOf e rule group }
+    ensures { (group : AnyKeyParts) → (result ≡ Some group) ↔ IsLeftOf e rule group }
 {
     if !rule.binds() {
         return None;
@@ -273,9 +273,9 @@ fn put_with_members<'q>(
     requires has_job { HasJob query.now board.now seat.old job.now }
     requires known { IsGroup query.now group }
     requires e { IsCandidate query.now e }
-    requires shown { (bound : Parts) → IsLogicalIn (IsMember query.now) group bound →
+    requires shown { (bound : AnyExprParts) → IsLogicalIn (IsMember query.now) group bound →
         ShowsEntry (meaning_of query.now) board.now.setup.capacity (hands seat.old).looks (word_of bound) }
-    requires asked { (bound other : Parts) → IsLogicalIn (IsMember query.now) group bound →
+    requires asked { (bound other : AnyExprParts) → IsLogicalIn (IsMember query.now) group bound →
         IsBroughtWith query.now rule e (Some bound) other → IsAskedOf query.now job.now.right.goal other }
     ensures has_job { HasJob query.now board.now seat.new job.now }
     ensures puts { SeatPuts query.now board.now seat.old job.now

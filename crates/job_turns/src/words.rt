@@ -7,7 +7,7 @@ ghost use Rattle.query_core.specs.Goals.{FitsExpr, FitsKey};
 ghost use Rattle.query_core.specs.Expressions.{expr_of, word_of};
 ghost use Rattle.query_core.specs.declared.expressions.PhysicalExpr.{PhysicalExpr};
 ghost use Rattle.query_core.specs.declared.words.KeyParts.{KeyParts};
-ghost use Rattle.request_props.specs.Requests.{IsInRange};
+ghost use Rattle.request_props.specs.Requests.{IsRequestInRange};
 ghost use Rattle.goal_space.specs.Words.{goal_word};
 ghost use Rattle.goal_space.specs.declared.goals.GoalKind.TheVariants.{Opt, OptE};
 
@@ -17,7 +17,7 @@ use request_props::{Request, code};
 /// The word of the goal of the group of this key for the request.
 pub(crate) fn group_goal(key: Key, wanted: Request) -> Goal
     requires key { FitsKey key.0 }
-    requires wanted { IsInRange wanted }
+    requires wanted { IsRequestInRange wanted }
     ensures { (group : KeyParts) → key.0 ≡ key_number group →
         goal_word (Opt group wanted) ≡ result.0 }
 {
@@ -27,7 +27,7 @@ pub(crate) fn group_goal(key: Key, wanted: Request) -> Goal
 /// The word of the goal of the expression of this word for the request.
 pub(crate) fn member_goal(expr: Expr, wanted: Request) -> Goal
     requires expr { FitsExpr expr.0 }
-    requires wanted { IsInRange wanted }
+    requires wanted { IsRequestInRange wanted }
     ensures word { (e : PhysicalExpr) → word_of (expr_of e) ≡ expr.0 →
         goal_word (OptE e wanted) ≡ result.0 }
     ensures some { 0 < result.0 }

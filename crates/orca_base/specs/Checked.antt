@@ -18,6 +18,6 @@ each part before [] = Ok before
 each part before (x ∷ xs) = part before x >>= λ y. each part (before ++ y ∷ []) xs
 
 -- what a function returned is what is due, unless memory ran out, which is the fault named first
-abbrev pub Gives : {E A : Type 0} → E → Result A E → Result A E → Type 0
-Gives memory due (Ok x) = due ≡ Ok x
-Gives memory due (Err fault) = fault ≢ memory → due ≡ Err fault
+abbrev pub Yields : {E A : Type 0} → E → Result A E → Result A E → Type 0
+Yields memory due (Ok x) = due ≡ Ok x
+Yields memory due (Err fault) = fault ≢ memory → due ≡ Err fault

@@ -6,7 +6,7 @@ use Rattle.request_props.specs.Numbered.{IsWithinLimits}
 use Rattle.plan_space.specs.Nodes.{Tree}
 use Rattle.plan_space.specs.Least.{IsLeastPlan}
 use Rattle.command_line.specs.Command.{ListNames, batch}
-use Rattle.command_line.specs.declared.choices.Choices.{Choices}
+use Rattle.command_line.specs.declared.settings.Settings.{Settings}
 use Rattle.orca_cli.specs.Asked.{SaysCatalog}
 use Rattle.orca_cli.specs.Batches.{for_a_line, LineEnd, IsLineEnd, AreLineEnds, batch_line, texts_from, IsBatch}
 use Rattle.orca_cli.specs.Laws.{BatchOutcome, by, OneBatch, LinesAsPlanned}
@@ -19,19 +19,19 @@ use Rattle.orca_cli.proofs.OneAnswer.{OneAnswer, told_one, one_catalog, some_cat
 use Rattle.orca_cli.proofs.Outcomes.{OneOf, one_of, over, known_of, same_answers, same_known, one_fault}
 use Rattle.orca_cli.proofs.SectionTexts.{OneSections, equal_texts}
 
-module _ (one : OneOf) (catalog : Catalog) (choices : Choices) (workers more : ℕ) where
+module _ (one : OneOf) (catalog : Catalog) (settings : Settings) (workers more : ℕ) where
   -- a line ends in one way
-  one_line : (line : List ℕ) (end other : LineEnd) → IsLineEnd catalog (by workers choices) line end
-      → IsLineEnd catalog (by more choices) line other → end ≡ other
+  one_line : (line : List ℕ) (end other : LineEnd) → IsLineEnd catalog (by workers settings) line end
+      → IsLineEnd catalog (by more settings) line other → end ≡ other
   one_line line end other is again =
-      let same = same_answers one catalog (for_a_line choices) 1 1 line is.note again.note end.status other.status
+      let same = same_answers one catalog (for_a_line settings) 1 1 line is.note again.note end.status other.status
       end.text other.text is.answer again.answer in
-      let texts = equal_texts (for_a_line choices) 1 1 end.text other.text refl same.texts in
+      let texts = equal_texts (for_a_line settings) 1 1 end.text other.text refl same.texts in
       λ i. record { status = same.status i; text = texts i }
 
   -- so do all lines
-  one_each : (lines : List (List ℕ)) (ends others : List LineEnd) → AreLineEnds catalog (by workers choices) lines ends
-      → AreLineEnds catalog (by more choices) lines others → ends ≡ others
+  one_each : (lines : List (List ℕ)) (ends others : List LineEnd) → AreLineEnds catalog (by workers settings) lines ends
+      → AreLineEnds catalog (by more settings) lines others → ends ≡ others
   one_each [] ends others is again = is ∙ sym again
   one_each (line ∷ more_lines) [] others is again = absurd is
   one_each (line ∷ more_lines) (end ∷ ends) [] is again = absurd again
@@ -41,29 +41,29 @@ module _ (one : OneOf) (catalog : Catalog) (choices : Choices) (workers more : �
       λ i. same i ∷ same_rest i
 
 -- how a batch over known bytes ends
-data KnownBatch (bytes : List ℕ) (choices : Choices) (list : List ℕ) (status : Status) (text : List ℕ) : Type 0 where
-  with_answers : (catalog : Catalog) → SaysCatalog bytes catalog → IsBatch catalog choices list status text
-      → KnownBatch bytes choices list status text
-  without_list : (catalog : Catalog) → SaysCatalog bytes catalog → IsListRefused choices.capacity list status text
-      → KnownBatch bytes choices list status text
-  without_catalog : IsCatalogRefused bytes status text → KnownBatch bytes choices list status text
+data KnownBatch (bytes : List ℕ) (settings : Settings) (list : List ℕ) (status : Status) (text : List ℕ) : Type 0 where
+  with_answers : (catalog : Catalog) → SaysCatalog bytes catalog → IsBatch catalog settings list status text
+      → KnownBatch bytes settings list status text
+  without_list : (catalog : Catalog) → SaysCatalog bytes catalog → IsListRefused settings.capacity list status text
+      → KnownBatch bytes settings list status text
+  without_catalog : IsCatalogRefused bytes status text → KnownBatch bytes settings list status text
 
 -- what the shelf tells of both files
-known_batch : (files : ListNames) (choices : Choices) (held : List ℕ → Option (List ℕ)) (bytes list : List ℕ)
-    (status : Status) (text : List ℕ) → (o : BatchOutcome files choices held bytes list status text)
-    → IsEnding (record { task = batch files; choices = choices }) (reads held o.before o.after) o.empty o.note status
-    text → KnownBatch bytes choices list status text
-known_batch files choices held bytes list status text o (answered query asks search) = absurd asks
-known_batch files choices held bytes list status text o (from_dump other task end) = cc
-known_batch files choices held bytes list status text o (own_end own kept) =
+known_batch : (files : ListNames) (settings : Settings) (held : List ℕ → Option (List ℕ)) (bytes list : List ℕ)
+    (status : Status) (text : List ℕ) → (o : BatchOutcome files settings held bytes list status text)
+    → IsEnding (record { task = batch files; settings = settings }) (reads held o.before o.after) o.empty o.note status
+    text → KnownBatch bytes settings list status text
+known_batch files settings held bytes list status text o (answered query asks search) = absurd asks
+known_batch files settings held bytes list status text o (from_dump other task end) = cc
+known_batch files settings held bytes list status text o (own_end own kept) =
     with_answers own.catalog (subst (λ b. SaysCatalog b own.catalog)
     (told_one (held files.catalog) own.offers.bytes bytes own.offers.told o.catalog_told) own.offers.says)
-    (subst (λ l. IsBatch own.catalog choices l status text)
+    (subst (λ l. IsBatch own.catalog settings l status text)
     (told_one (held files.list) own.list list own.told o.list_told) own.is_batch)
-known_batch files choices held bytes list status text o (stopped stop kept) = of_stop stop
+known_batch files settings held bytes list status text o (stopped stop kept) = of_stop stop
   where
-    of_stop : FilesStop (λ k. IsListRefused choices.capacity) files.catalog files.list (reads held o.before o.after)
-        status text → KnownBatch bytes choices list status text
+    of_stop : FilesStop (λ k. IsListRefused settings.capacity) files.catalog files.list (reads held o.before o.after)
+        status text → KnownBatch bytes settings list status text
     of_stop (by_catalog (unread is)) = absurd (o.were_read is.fault)
     of_stop (by_catalog (unusable other told none)) =
         without_catalog (subst (λ b. IsCatalogRefused b status text)
@@ -72,23 +72,23 @@ known_batch files choices held bytes list status text o (stopped stop kept) = of
     of_stop (by_file catalog offers (unusable other told why)) =
         without_list catalog (subst (λ b. SaysCatalog b catalog)
         (told_one (held files.catalog) offers.bytes bytes offers.told o.catalog_told) offers.says)
-        (subst (λ l. IsListRefused choices.capacity l status text)
+        (subst (λ l. IsListRefused settings.capacity l status text)
         (told_one (held files.list) other list told o.list_told) why)
 
-module _ (one : OneOf) (bytes : List ℕ) (choices : Choices) (workers more : ℕ) (list : List ℕ) (first second : Status)
+module _ (one : OneOf) (bytes : List ℕ) (settings : Settings) (workers more : ℕ) (list : List ℕ) (first second : Status)
     (text other : List ℕ) where
   -- two batches over one catalogue
-  same_batches : (catalog : Catalog) → IsBatch catalog (by workers choices) list first text
-      → IsBatch catalog (by more choices) list second other → (first ≡ second) × (text ≡ other)
+  same_batches : (catalog : Catalog) → IsBatch catalog (by workers settings) list first text
+      → IsBatch catalog (by more settings) list second other → (first ≡ second) × (text ≡ other)
   same_batches catalog is again = (
     is.done ∙ sym again.done,
     is.is_text ∙ ap (λ ends. batch_line (length (lines_of list)) ++ texts_from 0 ends)
-        (one_each one catalog choices workers more (lines_of list) is.ends again.ends is.are_ends again.are_ends)
+        (one_each one catalog settings workers more (lines_of list) is.ends again.ends is.are_ends again.are_ends)
         ∙ sym again.is_text,
   )
 
   -- two refusals of one list
-  same_refusals : IsListRefused choices.capacity list first text → IsListRefused choices.capacity list second other
+  same_refusals : IsListRefused settings.capacity list first text → IsListRefused settings.capacity list second other
       → (first ≡ second) × (text ≡ other)
   same_refusals is again =
       let caused = is.caused in
@@ -97,10 +97,10 @@ module _ (one : OneOf) (bytes : List ℕ) (choices : Choices) (workers more : �
       (is.refused ∙ sym again.refused, is.line ∙ ap texts.batch_refused cause ∙ sym again.line)
 
   -- what is known of two batches over the same bytes is the same
-  same_known_batches : KnownBatch bytes (by workers choices) list first text
-      → KnownBatch bytes (by more choices) list second other → (first ≡ second) × (text ≡ other)
+  same_known_batches : KnownBatch bytes (by workers settings) list first text
+      → KnownBatch bytes (by more settings) list second other → (first ≡ second) × (text ≡ other)
   same_known_batches (with_answers k says is) (with_answers l says_too is_too) =
-      same_batches k is (subst (λ c. IsBatch c (by more choices) list second other)
+      same_batches k is (subst (λ c. IsBatch c (by more settings) list second other)
       (one_catalog bytes l k says_too says) is_too)
   same_known_batches (with_answers k says is) (without_list l says_too why) =
       let caused = why.caused in let usable = is.usable in cc
@@ -124,17 +124,17 @@ module _ (one : OneOf) (bytes : List ℕ) (choices : Choices) (workers more : �
 -- two batches over the same bytes have one outcome
 pub one_batch_of : OneAnswer → OneSections
     → ((q : Query) (s t : Tree) → IsWithinLimits q → IsLeastPlan q s → IsLeastPlan q t → s ≡ t) → OneBatch
-one_batch_of answer sections least files others choices workers more held told bytes list first second text other o
+one_batch_of answer sections least files others settings workers more held told bytes list first second text other o
     again =
-    same_known_batches (one_of answer sections least) bytes choices workers more list first second text other
-    (known_batch files (by workers choices) held bytes list first text o o.ends)
-    (known_batch others (by more choices) told bytes list second other again again.ends)
+    same_known_batches (one_of answer sections least) bytes settings workers more list first second text other
+    (known_batch files (by workers settings) held bytes list first text o o.ends)
+    (known_batch others (by more settings) told bytes list second other again again.ends)
 
 -- a line of a batch ends as a plan of it
 pub lines_as_planned : OneAnswer → OneSections
     → ((q : Query) (s t : Tree) → IsWithinLimits q → IsLeastPlan q s → IsLeastPlan q t → s ≡ t) → LinesAsPlanned
-lines_as_planned answer sections least files choices workers held bytes line catalog end status text says is o =
-    let same = same_known (one_of answer sections least) bytes (for_a_line choices) 1 workers line is.note o.note
+lines_as_planned answer sections least files settings workers held bytes line catalog end status text says is o =
+    let same = same_known (one_of answer sections least) bytes (for_a_line settings) 1 workers line is.note o.note
     end.status status end.text text (over catalog says is.answer)
-    (known_of files (by workers (for_a_line choices)) held bytes line status text o o.ends) in
-    (same.status, equal_texts (for_a_line choices) 1 workers end.text text refl same.texts)
+    (known_of files (by workers (for_a_line settings)) held bytes line status text o o.ends) in
+    (same.status, equal_texts (for_a_line settings) 1 workers end.text text refl same.texts)

@@ -7,7 +7,7 @@ use Rattle.orca_cli.specs.Causes.{ReadRose, HasNoFault, Completes, HasCauses, En
 use Rattle.orca_cli.specs.Prepared.{Reads, generated_in}
 use Rattle.orca_cli.specs.Run.{IsEnding, IsRun, Puts, Ends, whole, cut_short, nothing}
 use Rattle.orca_cli.specs.Sections.{Tells}
-use Rattle.orca_cli.specs.Status.{IsOneOf, settled, overflowed, turned_down, finished, served, list_refused}
+use Rattle.orca_cli.specs.Status.{IsOneOf, concluded, overflowed, turned_down, finished, served, list_refused}
 use Rattle.orca_cli.specs.Status.{plan_turned_down}
 use Rattle.orca_cli.specs.declared.status.Status.{Status}
 use Rattle.orca_cli.specs.declared.status.Status.TheVariants.{Usage, ReadFault, WriteFault, Memory}
@@ -48,10 +48,11 @@ module _ (one : OneAnswer) (outcomes : OneText) (named : Option AnyCommand) (she
 
   completed : Completes named shelf sink status
   completed command query is sure room none =
-      where_no_fault (IsOneOf settled) command is none (inr (inr (inl refl)))
-      (λ s t ending. settled_search one (Tells (generated_in command.task) command.choices query) command.choices query
+      where_no_fault (IsOneOf concluded) command is none (inr (inr (inl refl)))
+      (λ s t ending. settled_search one (Tells (generated_in command.task) command.settings query) command.settings
+      query
       note s t room
-      (sure_search one command.task command.choices shelf empty note s t query sure none.reads ending))
+      (sure_search one command.task command.settings shelf empty note s t query sure none.reads ending))
 
   usage_cause : status ≡ Usage → named ≡ None
   usage_cause is = of_named named ends
@@ -124,23 +125,24 @@ module _ (one : OneAnswer) (outcomes : OneText) (named : Option AnyCommand) (she
     write_fault = write_cause;
     overflows = λ command query is sure more none.
         where_no_fault (IsOneOf overflowed) command is none (inr (inl refl))
-        (λ s t ending. overflow_search one (Tells (generated_in command.task) command.choices query) command.choices
+        (λ s t ending. overflow_search one (Tells (generated_in command.task) command.settings query) command.settings
         query note s t more
-        (sure_search one command.task command.choices shelf empty note s t query sure none.reads ending));
+        (sure_search one command.task command.settings shelf empty note s t query sure none.reads ending));
     refuses = λ command files is named_files held none.
         where_no_fault (IsOneOf turned_down) command is none (inr (inl refl))
-        (λ s t ending. inl (refused_query_there one shelf empty note command.task command.choices files named_files held
+        (λ s t ending. inl
+        (refused_query_there one shelf empty note command.task command.settings files named_files held
         none.reads s t ending));
     finishes = λ command input is task none.
         where_no_fault (IsOneOf finished) command is none (inr (inr (inr (inl refl))))
         (λ s t ending. generated_there one command shelf empty note none.reads s t ending input task);
     stages_finish = λ command query asked is task held none.
         where_no_fault (IsOneOf finished) command is none (inr (inr (inr (inl refl))))
-        (λ s t ending. of_search s (staged_status query command.choices.capacity asked.stages s t
+        (λ s t ending. of_search s (staged_status query command.settings.capacity asked.stages s t
         (stages_there one command shelf empty note none.reads s t ending asked query task held)));
     stages_settle = λ command query asked is task held room none.
-        where_no_fault (IsOneOf settled) command is none (inr (inr (inl refl)))
-        (λ s t ending. settled_stages one query command.choices.capacity asked.stages s t room
+        where_no_fault (IsOneOf concluded) command is none (inr (inr (inl refl)))
+        (λ s t ending. settled_stages one query command.settings.capacity asked.stages s t room
         (stages_there one command shelf empty note none.reads s t ending asked query task held));
     plan_refused = plan_cause_of;
     accepts_plan = λ command files query plan_text cost is task held good none.

@@ -5,7 +5,7 @@ use Rattle.query_core.specs.declared.options.Options.{Options}
 use Rattle.query_core.specs.declared.query.Query.{Query}
 use Rattle.text_check.specs.declared.text_fault.TextFault.TheVariants as faults
 use Rattle.command_line.specs.Command.{PlanNames, check}
-use Rattle.command_line.specs.declared.choices.Choices.{Choices}
+use Rattle.command_line.specs.declared.settings.Settings.{Settings}
 use Rattle.orca_cli.specs.Asked.{SaysCatalog, Asks}
 use Rattle.orca_cli.specs.Checked.{IsCheckEnd, faulty}
 use Rattle.orca_cli.specs.Laws.{CheckOutcome, OneCheck}
@@ -28,20 +28,20 @@ data KnownCheck (bytes : List ℕ) (options : Options) (asked plan : List ℕ) (
         → KnownCheck bytes options asked plan status text
     without_catalog : IsCatalogRefused bytes status text → KnownCheck bytes options asked plan status text
 
-module _ (named : PlanNames) (choices : Choices) (held : List ℕ → Option (List ℕ)) (bytes asked plan : List ℕ)
-    (status : Status) (text : List ℕ) (o : CheckOutcome named choices held bytes asked plan status text) where
+module _ (named : PlanNames) (settings : Settings) (held : List ℕ → Option (List ℕ)) (bytes asked plan : List ℕ)
+    (status : Status) (text : List ℕ) (o : CheckOutcome named settings held bytes asked plan status text) where
   -- what the shelf tells of the catalogue, and of the query over it
   says_there : (catalog : Catalog) → Offers (held named.files.catalog) catalog → SaysCatalog bytes catalog
   says_there catalog offers = subst (λ b. SaysCatalog b catalog)
       (told_one (held named.files.catalog) offers.bytes bytes offers.told o.catalog_told) offers.says
 
-  asks_there : (query : Query) → (asks : FilesAsk named.files choices.options held query)
-      → Asks asks.catalog choices.options asked query
-  asks_there query asks = subst (λ t. Asks asks.catalog choices.options t query)
+  asks_there : (query : Query) → (asks : FilesAsk named.files settings.options held query)
+      → Asks asks.catalog settings.options asked query
+  asks_there query asks = subst (λ t. Asks asks.catalog settings.options t query)
       (told_one (held named.files.query) asks.asked.asked asked asks.asked.told o.query_told) asks.asked.asks
 
-  of_query_stop : FilesStop (λ k. IsQueryRefused k choices.options) named.files.catalog named.files.query
-      (reads held o.before o.after) status text → KnownCheck bytes choices.options asked plan status text
+  of_query_stop : FilesStop (λ k. IsQueryRefused k settings.options) named.files.catalog named.files.query
+      (reads held o.before o.after) status text → KnownCheck bytes settings.options asked plan status text
   of_query_stop (by_catalog (unread is)) = absurd (o.were_read is.fault)
   of_query_stop (by_catalog (unusable other told none)) =
       without_catalog (subst (λ b. IsCatalogRefused b status text)
@@ -49,11 +49,11 @@ module _ (named : PlanNames) (choices : Choices) (held : List ℕ → Option (Li
   of_query_stop (by_file catalog offers (unread is)) = absurd (o.were_read is.fault)
   of_query_stop (by_file catalog offers (unusable other told why)) =
       without_query catalog (says_there catalog offers) (subst
-      (λ t. IsQueryRefused catalog choices.options t status text)
+      (λ t. IsQueryRefused catalog settings.options t status text)
       (told_one (held named.files.query) other asked told o.query_told) why)
 
-  of_stop : CheckStops named choices.options (reads held o.before o.after) status text
-      → KnownCheck bytes choices.options asked plan status text
+  of_stop : CheckStops named settings.options (reads held o.before o.after) status text
+      → KnownCheck bytes settings.options asked plan status text
   of_stop (by_query stop) = of_query_stop stop
   of_stop (by_plan query asks (unread is)) = absurd (o.were_read is.fault)
   of_stop (by_plan query asks (unusable other told why)) =
@@ -61,8 +61,9 @@ module _ (named : PlanNames) (choices : Choices) (held : List ℕ → Option (Li
       (subst (λ b. IsCheckEnd query b status text) (told_one (held named.plan) other plan told o.plan_told)
       (faulty why.refused faults.TooLong (λ same. cc) why.long why.line))
 
-  known_check : IsEnding (record { task = check named; choices = choices }) (reads held o.before o.after) o.empty o.note
-      status text → KnownCheck bytes choices.options asked plan status text
+  known_check : IsEnding (record { task = check named; settings = settings }) (reads held o.before o.after) o.empty
+      o.note
+      status text → KnownCheck bytes settings.options asked plan status text
   known_check (answered query asks search) = absurd asks
   known_check (from_dump other task end) = cc
   known_check (own_end own kept) =
@@ -110,7 +111,7 @@ module _ (one : OneAnswer) (outcomes : OneText) (bytes : List ℕ) (options : Op
 
 -- two checks over the same bytes have one outcome
 pub one_check_of : OneAnswer → OneText → OneCheck
-one_check_of one outcomes named others choices held told bytes asked plan first second text other o again =
-    same_checks one outcomes bytes choices.options asked plan first second text other
-    (known_check named choices held bytes asked plan first text o o.ends)
-    (known_check others choices told bytes asked plan second other again again.ends)
+one_check_of one outcomes named others settings held told bytes asked plan first second text other o again =
+    same_checks one outcomes bytes settings.options asked plan first second text other
+    (known_check named settings held bytes asked plan first text o o.ends)
+    (known_check others settings told bytes asked plan second other again again.ends)

@@ -8,7 +8,7 @@ use Rattle.text_check.specs.Outcome.{IsGoodText, HasFault}
 use Rattle.text_check.specs.declared.text_fault.TextFault.{TextFault}
 use Rattle.text_check.specs.declared.text_fault.TextFault.TheVariants as faults
 use Rattle.command_line.specs.Command.{PlanNames, check}
-use Rattle.command_line.specs.declared.choices.Choices.{Choices}
+use Rattle.command_line.specs.declared.settings.Settings.{Settings}
 use Rattle.orca_cli.specs.Answers.{Note}
 use Rattle.orca_cli.specs.Asked.{Asks}
 use Rattle.orca_cli.specs.Causes.{Holds, ReadRose}
@@ -97,33 +97,33 @@ pub record IsCheckOf (named : PlanNames) (options : Options) (held : List ℕ �
   pub end : IsCheckEnd query plan status text
 
 -- the query is refused, or the text is checked
-pub checked_of : (named : PlanNames) (choices : Choices) (shelf : Reads) (catalog : Catalog) (asked : List ℕ)
+pub checked_of : (named : PlanNames) (settings : Settings) (shelf : Reads) (catalog : Catalog) (asked : List ℕ)
     → Holds named.files.catalog named.files.query shelf.held catalog asked → (note : Note) (status : Status)
     → (text : List ℕ) (empty : Note) → (ReadRose (check named) shelf → ⊥)
-    → IsEnding (record { task = check named; choices = choices }) shelf empty note status text
-    → IsQueryRefused catalog choices.options asked status text
-    ⊎ IsCheckOf named choices.options shelf.held catalog asked status text
-checked_of named choices shelf catalog asked holds note status text empty no_read (answered query asks search) =
+    → IsEnding (record { task = check named; settings = settings }) shelf empty note status text
+    → IsQueryRefused catalog settings.options asked status text
+    ⊎ IsCheckOf named settings.options shelf.held catalog asked status text
+checked_of named settings shelf catalog asked holds note status text empty no_read (answered query asks search) =
     absurd asks
-checked_of named choices shelf catalog asked holds note status text empty no_read (from_dump other task end) = cc
-checked_of named choices shelf catalog asked holds note status text empty no_read (own_end own kept) =
+checked_of named settings shelf catalog asked holds note status text empty no_read (from_dump other task end) = cc
+checked_of named settings shelf catalog asked holds note status text empty no_read (own_end own kept) =
     inr (record {
       query = own.query;
-      asks = asked_there named.files choices.options shelf catalog asked holds own.query own.asks;
+      asks = asked_there named.files settings.options shelf catalog asked holds own.query own.asks;
       plan = own.plan;
       told = own.told;
       end = own.end;
     })
-checked_of named choices shelf catalog asked holds note status text empty no_read (stopped (by_query stop) kept) =
+checked_of named settings shelf catalog asked holds note status text empty no_read (stopped (by_query stop) kept) =
     inl (refused_there named.files.catalog named.files.query shelf catalog asked holds
-    (λ k. IsQueryRefused k choices.options) status text stop (λ rose. no_read (inl rose)))
-checked_of named choices shelf catalog asked holds note status text empty no_read
+    (λ k. IsQueryRefused k settings.options) status text stop (λ rose. no_read (inl rose)))
+checked_of named settings shelf catalog asked holds note status text empty no_read
     (stopped (by_plan query asks (unread is)) kept) = absurd (no_read (inr is.rose))
-checked_of named choices shelf catalog asked holds note status text empty no_read
+checked_of named settings shelf catalog asked holds note status text empty no_read
     (stopped (by_plan query asks (unusable bytes told why)) kept) =
     inr (record {
       query = query;
-      asks = asked_there named.files choices.options shelf catalog asked holds query asks;
+      asks = asked_there named.files settings.options shelf catalog asked holds query asks;
       plan = bytes;
       told = told;
       end = faulty why.refused faults.TooLong (λ same. cc) why.long why.line;

@@ -11,11 +11,11 @@ use Rattle.dump_replay.specs.declared.dump.Dump.{Dump}
 use Rattle.dump_replay.specs.declared.dump.DumpFault.{DumpFault}
 use Rattle.dump_replay.specs.declared.dump.DumpFault.TheVariants.{TooLong, Line, Memory}
 use Rattle.command_line.specs.Command.{FileNames, dump, replay}
-use Rattle.command_line.specs.declared.choices.Choices.{Choices}
+use Rattle.command_line.specs.declared.settings.Settings.{Settings}
 use Rattle.orca_cli.specs.Answers.{Note, IsSearchEnd}
 use Rattle.orca_cli.specs.Asked.{Asks}
 use Rattle.orca_cli.specs.Causes.{Holds, ReadRose}
-use Rattle.orca_cli.specs.Dumps.{dump_options, replay_choices, IsDumpEnd, DumpAsks}
+use Rattle.orca_cli.specs.Dumps.{dump_options, replay_settings, IsDumpEnd, DumpAsks}
 use Rattle.orca_cli.specs.Prepared.{Reads, IsQueryRefused, IsReplayRefused, unread, unusable}
 use Rattle.orca_cli.specs.Replays.{IsNoDump}
 use Rattle.orca_cli.specs.Run.{IsEnding, answered, from_dump, own_end, stopped}
@@ -37,32 +37,33 @@ one_dump_of one fault either = record { one = one; fault = fault; either = eithe
 -- ---- dumps
 
 -- the end of the dump of a text that asks for a query over the catalogue
-pub record DumpHere (catalog : Catalog) (choices : Choices) (asked : List ℕ) (status : Status) (text : List ℕ) : Type 0
+pub record DumpHere (catalog : Catalog) (settings : Settings) (asked : List ℕ) (status : Status)
+    (text : List ℕ) : Type 0
   where
     pub select : Select
     pub reading : IsReading asked select
     pub query : Query
-    pub asks : Asks catalog choices.options asked query
-    pub ends : IsDumpEnd select catalog asked (dump_options choices) status text
+    pub asks : Asks catalog settings.options asked query
+    pub ends : IsDumpEnd select catalog asked (dump_options settings) status text
 
 -- a dump over files that hold a catalogue and a text ends so, or the text is refused
-pub dumped_of : (files : FileNames) (choices : Choices) (shelf : Reads) (catalog : Catalog) (asked : List ℕ)
+pub dumped_of : (files : FileNames) (settings : Settings) (shelf : Reads) (catalog : Catalog) (asked : List ℕ)
     → Holds files.catalog files.query shelf.held catalog asked → (note : Note) (status : Status) (text : List ℕ)
     (empty : Note) → (ReadRose (dump files) shelf → ⊥)
-    → IsEnding (record { task = dump files; choices = choices }) shelf empty note status text
-    → IsQueryRefused catalog choices.options asked status text ⊎ DumpHere catalog choices asked status text
-dumped_of files choices shelf catalog asked holds note status text empty no_read (answered query asks search) =
+    → IsEnding (record { task = dump files; settings = settings }) shelf empty note status text
+    → IsQueryRefused catalog settings.options asked status text ⊎ DumpHere catalog settings asked status text
+dumped_of files settings shelf catalog asked holds note status text empty no_read (answered query asks search) =
     absurd asks
-dumped_of files choices shelf catalog asked holds note status text empty no_read (from_dump other task end) = cc
-dumped_of files choices shelf catalog asked holds note status text empty no_read (own_end own kept) =
-    let there : DumpHere own.catalog choices own.asked status text =
+dumped_of files settings shelf catalog asked holds note status text empty no_read (from_dump other task end) = cc
+dumped_of files settings shelf catalog asked holds note status text empty no_read (own_end own kept) =
+    let there : DumpHere own.catalog settings own.asked status text =
     record { select = own.select; reading = own.reading; query = own.query; asks = own.asks; ends = own.ends } in
-    inr (subst (λ k. DumpHere k choices asked status text)
+    inr (subst (λ k. DumpHere k settings asked status text)
     (offered_there files.catalog files.query shelf catalog asked holds own.catalog own.offers)
-    (subst (λ t. DumpHere own.catalog choices t status text)
+    (subst (λ t. DumpHere own.catalog settings t status text)
     (told_one (shelf.held files.query) own.asked asked own.told holds.text_told) there))
-dumped_of files choices shelf catalog asked holds note status text empty no_read (stopped stop kept) =
-    inl (refused_there files.catalog files.query shelf catalog asked holds (λ k. IsQueryRefused k choices.options)
+dumped_of files settings shelf catalog asked holds note status text empty no_read (stopped stop kept) =
+    inl (refused_there files.catalog files.query shelf catalog asked holds (λ k. IsQueryRefused k settings.options)
     status text stop no_read)
 
 -- ---- replays
@@ -73,25 +74,25 @@ pub record ReplayHere (bytes : List ℕ) (workers : ℕ) (note : Note) (status :
   pub says : IsReadAs bytes (Ok of_bytes)
   pub query : Query
   pub asks : DumpAsks of_bytes query
-  pub ends : IsSearchEnd (Tells None (replay_choices of_bytes.options workers) query)
-      (replay_choices of_bytes.options workers) query note status text
+  pub ends : IsSearchEnd (Tells None (replay_settings of_bytes.options workers) query)
+      (replay_settings of_bytes.options workers) query note status text
 
 -- a replay of a file that holds bytes ends so, or the bytes are refused
-pub replayed_of : (file : List ℕ) (choices : Choices) (shelf : Reads) (bytes : List ℕ) → shelf.held file ≡ Some bytes
+pub replayed_of : (file : List ℕ) (settings : Settings) (shelf : Reads) (bytes : List ℕ) → shelf.held file ≡ Some bytes
     → (note : Note) (status : Status) (text : List ℕ) (empty : Note) → (ReadRose (replay file) shelf → ⊥)
-    → IsEnding (record { task = replay file; choices = choices }) shelf empty note status text
-    → IsReplayRefused bytes status text ⊎ ReplayHere bytes choices.workers note status text
-replayed_of file choices shelf bytes held note status text empty no_read (answered query asks search) = absurd asks
-replayed_of file choices shelf bytes held note status text empty no_read (from_dump other task end) =
+    → IsEnding (record { task = replay file; settings = settings }) shelf empty note status text
+    → IsReplayRefused bytes status text ⊎ ReplayHere bytes settings.workers note status text
+replayed_of file settings shelf bytes held note status text empty no_read (answered query asks search) = absurd asks
+replayed_of file settings shelf bytes held note status text empty no_read (from_dump other task end) =
     let same : other ≡ file = cc in
     let told : shelf.held other ≡ Some bytes = ap shelf.held same ∙ held in
     let says = subst (λ b. IsReadAs b (Ok end.dump))
     (told_one (shelf.held other) end.offers.bytes bytes end.offers.told told) end.offers.says in
     inr (record { of_bytes = end.dump; says = says; query = end.query; asks = end.asks; ends = end.ends })
-replayed_of file choices shelf bytes held note status text empty no_read (own_end own kept) = absurd own
-replayed_of file choices shelf bytes held note status text empty no_read (stopped (unread is) kept) =
+replayed_of file settings shelf bytes held note status text empty no_read (own_end own kept) = absurd own
+replayed_of file settings shelf bytes held note status text empty no_read (stopped (unread is) kept) =
     absurd (no_read is.rose)
-replayed_of file choices shelf bytes held note status text empty no_read (stopped (unusable other told why) kept) =
+replayed_of file settings shelf bytes held note status text empty no_read (stopped (unusable other told why) kept) =
     inl (subst (λ b. IsReplayRefused b status text) (told_one (shelf.held file) other bytes told held) why)
 
 -- ---- one dump

@@ -11,7 +11,7 @@ use Rattle.dump_replay.specs.declared.dump.DumpOptions.{DumpOptions}
 use Rattle.orca_cli.specs.Answers.{Note, IsSearchEnd}
 use Rattle.orca_cli.specs.Asked.{Asks}
 use Rattle.orca_cli.specs.DumpCauses.{IsRefusedIn}
-use Rattle.orca_cli.specs.Dumps.{replay_choices, IsDumpEnd, written, too_long, DumpAsks}
+use Rattle.orca_cli.specs.Dumps.{replay_settings, IsDumpEnd, written, too_long, DumpAsks}
 use Rattle.orca_cli.specs.Prepared.{AsksNothing, over_none, over_catalog, IsReplayRefused, no_dump, no_query}
 use Rattle.orca_cli.specs.Replays.{IsNoDump}
 use Rattle.orca_cli.specs.Sections.{Tells}
@@ -69,16 +69,16 @@ module _ (one : OneAnswer) (dumps_one : OneDump) (bytes : List ℕ) (of_bytes : 
   -- the replay of a dump that asks for a query is the search of this query
   pub replayed_search : (query : Query) → DumpAsks of_bytes query
       → IsReplayRefused bytes status text ⊎ ReplayHere bytes workers note status text
-      → IsSearchEnd (Tells None (replay_choices of_bytes.options workers) query)
-      (replay_choices of_bytes.options workers) query note status text
+      → IsSearchEnd (Tells None (replay_settings of_bytes.options workers) query)
+      (replay_settings of_bytes.options workers) query note status text
   replayed_search query asks (inl why) = absurd (never_nothing one of_bytes query status text asks (asks_nothing why))
   replayed_search query asks (inr here) =
       let same = one_dump dumps_one bytes here.of_bytes of_bytes here.says says in
-      let chosen = replay_choices of_bytes.options workers in
+      let chosen = replay_settings of_bytes.options workers in
       let query_too : DumpAsks of_bytes here.query = subst (λ d. DumpAsks d here.query) same here.asks in
       let found : IsSearchEnd (Tells None chosen here.query) chosen here.query note status text =
-      subst (λ (d : Dump). IsSearchEnd (Tells None (replay_choices d.options workers) here.query)
-      (replay_choices d.options workers) here.query note status text) same here.ends in
+      subst (λ (d : Dump). IsSearchEnd (Tells None (replay_settings d.options workers) here.query)
+      (replay_settings d.options workers) here.query note status text) same here.ends in
       subst (λ q. IsSearchEnd (Tells None chosen q) chosen q note status text)
       (one_asked one of_bytes here.query query query_too asks) found
 

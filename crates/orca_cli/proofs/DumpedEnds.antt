@@ -4,7 +4,7 @@ use Rattle.query_core.specs.declared.catalog.Catalog.{Catalog}
 use Rattle.dump_replay.specs.declared.dump.DumpOptions.{DumpOptions}
 use Rattle.command_line.specs.Command.{AnyCommand, dump, replay}
 use Rattle.orca_cli.specs.Answers.{Note, IsSearchEnd}
-use Rattle.orca_cli.specs.Dumps.{IsDumpEnd, dump_options, replay_choices}
+use Rattle.orca_cli.specs.Dumps.{IsDumpEnd, dump_options, replay_settings}
 use Rattle.orca_cli.specs.Prepared.{Reads}
 use Rattle.orca_cli.specs.Run.{from_dump, own_end, IsRun}
 use Rattle.orca_cli.specs.Sections.{Tells}
@@ -20,7 +20,7 @@ module _ (named : Option AnyCommand) (shelf : Reads) (wanted : Wanted) (is : IsW
     (status : Status) (text : List ℕ) where
   -- a run that wrote the dump of a query, which leaves the note as it was
   pub dump_run : (note : Note) (dumped : Dumped) → wanted.work ≡ works.Dump dumped
-      → IsDumpEnd dumped.select dumped.catalog dumped.query.items (dump_options wanted.command.choices) status text
+      → IsDumpEnd dumped.select dumped.catalog dumped.query.items (dump_options wanted.command.settings) status text
       → IsRun named shelf note note status text
   dump_run note dumped work end =
       let (files, task, asks) = asked_for named shelf.held wanted (works.Dump dumped) work is in
@@ -35,16 +35,16 @@ module _ (named : Option AnyCommand) (shelf : Reads) (wanted : Wanted) (is : IsW
         reading = one.reading;
         query = one.query;
         asks = one.asks;
-        ends = subst (λ (c : Catalog). IsDumpEnd dumped.select c over.text (dump_options wanted.command.choices)
+        ends = subst (λ (c : Catalog). IsDumpEnd dumped.select c over.text (dump_options wanted.command.settings)
             status text) one.over
             (subst (λ (t : List ℕ). IsDumpEnd dumped.select dumped.catalog t
-            (dump_options wanted.command.choices) status text) one.of_text end);
+            (dump_options wanted.command.settings) status text) one.of_text end);
       }) refl)
 
   -- a run that searched the query of a dump
   pub replay_run : (empty note : Note) (again : Replayed) → wanted.work ≡ works.Replay again
-      → IsSearchEnd (Tells None (replay_choices again.options wanted.command.choices.workers) again.asked.query)
-      (replay_choices again.options wanted.command.choices.workers) again.asked.query note status text
+      → IsSearchEnd (Tells None (replay_settings again.options wanted.command.settings.workers) again.asked.query)
+      (replay_settings again.options wanted.command.settings.workers) again.asked.query note status text
       → IsRun named shelf empty note status text
   replay_run empty note again work found =
       let (file, task, asks) = asked_for named shelf.held wanted (works.Replay again) work is in
@@ -55,6 +55,6 @@ module _ (named : Option AnyCommand) (shelf : Reads) (wanted : Wanted) (is : IsW
         query = again.asked.query;
         asks = one.asks;
         ends = subst (λ (o : DumpOptions). IsSearchEnd
-            (Tells None (replay_choices o wanted.command.choices.workers) again.asked.query)
-            (replay_choices o wanted.command.choices.workers) again.asked.query note status text) one.chosen found;
+            (Tells None (replay_settings o wanted.command.settings.workers) again.asked.query)
+            (replay_settings o wanted.command.settings.workers) again.asked.query note status text) one.chosen found;
       }))

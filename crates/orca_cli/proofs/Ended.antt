@@ -4,7 +4,7 @@ use Rattle.command_line.specs.Command.{ListNames, AnyTask, AnyCommand}
 use Rattle.command_line.specs.Command.{plan, gen, stages, check, dump, replay, batch}
 use Rattle.command_line.specs.HeldStages.{stages_read}
 use Rattle.command_line.specs.Views.{command_read, task_read}
-use Rattle.command_line.specs.declared.choices.Choices.{Choices}
+use Rattle.command_line.specs.declared.settings.Settings.{Settings}
 use Rattle.command_line.specs.declared.command.GenInput.{GenInput}
 use Rattle.orca_cli.specs.Answers.{Note, IsSearchEnd}
 use Rattle.orca_cli.specs.Batches.{IsBatch}
@@ -55,32 +55,32 @@ ends_then P Q ends.Memory step fact = tt
 -- the command that is wanted asks for this work
 pub asked_for : (named : Option AnyCommand) (held : List ℕ → Option (List ℕ)) (wanted : Wanted) (work : Work)
     → wanted.work ≡ work → IsWanted named held wanted
-    → AsksFor (task_read wanted.command.task) wanted.command.choices.options held work
+    → AsksFor (task_read wanted.command.task) wanted.command.settings.options held work
 asked_for named held wanted work same is =
-    subst (AsksFor (task_read wanted.command.task) wanted.command.choices.options held) same is.asks_for
+    subst (AsksFor (task_read wanted.command.task) wanted.command.settings.options held) same is.asks_for
 
 -- a run of the command that is wanted, which has this task
 pub task_run : (named : Option AnyCommand) (shelf : Reads) (empty note : Note) (wanted : Wanted) (status : Status)
     (text : List ℕ) → IsWanted named shelf.held wanted → (task : AnyTask) → task_read wanted.command.task ≡ task
-    → IsEnding (record { task = task; choices = wanted.command.choices }) shelf empty note status text
+    → IsEnding (record { task = task; settings = wanted.command.settings }) shelf empty note status text
     → IsRun named shelf empty note status text
 task_run named shelf empty note wanted status text is task same ending =
     subst (λ n. IsRun n shelf empty note status text) (sym is.named_is)
-    (subst (λ k. IsEnding (record { task = k; choices = wanted.command.choices }) shelf empty note status text)
+    (subst (λ k. IsEnding (record { task = k; settings = wanted.command.settings }) shelf empty note status text)
     (sym same) ending)
 
 -- a run that searched the query for which its command asks
 pub query_run : (named : Option AnyCommand) (shelf : Reads) (empty note : Note) (wanted : Wanted) (asked : Asked)
     (input : Option GenInput) (status : Status) (text : List ℕ) → wanted.work ≡ works.Query asked
     → IsWanted named shelf.held wanted → input ≡ generated_in (task_read wanted.command.task)
-    → IsSearchEnd (Tells input wanted.command.choices asked.query) wanted.command.choices asked.query note status text
+    → IsSearchEnd (Tells input wanted.command.settings asked.query) wanted.command.settings asked.query note status text
     → IsRun named shelf empty note status text
 query_run named shelf empty note wanted asked input status text work is made found =
     let command = command_read wanted.command in
-    let asks : IsAskedBy command.task command.choices.options shelf.held asked.query =
+    let asks : IsAskedBy command.task command.settings.options shelf.held asked.query =
     asked_for named shelf.held wanted (works.Query asked) work is in
     subst (λ n. IsRun n shelf empty note status text) (sym is.named_is) (answered asked.query asks
-    (subst (λ i. IsSearchEnd (Tells i command.choices asked.query) command.choices asked.query note status text) made
+    (subst (λ i. IsSearchEnd (Tells i command.settings asked.query) command.settings asked.query note status text) made
     found))
 
 -- a run of a batch, which leaves the note as it was
@@ -89,14 +89,14 @@ module _ (named : Option AnyCommand) (shelf : Reads) (note : Note) (wanted : Wan
     (text : List ℕ) where
   -- its command asks for the list
   list_run : ((files : ListNames) → AreListed files shelf.held listed
-      → IsEnding (record { task = batch files; choices = wanted.command.choices }) shelf note note status text)
+      → IsEnding (record { task = batch files; settings = wanted.command.settings }) shelf note note status text)
       → IsRun named shelf note note status text
   list_run ends =
       let (files, task, are) = asked_for named shelf.held wanted (works.List listed) work is in
       task_run named shelf note note wanted status text is (batch files) task (ends files are)
 
   -- each line was answered
-  pub answered_run : IsBatch listed.catalog wanted.command.choices listed.list.items status text
+  pub answered_run : IsBatch listed.catalog wanted.command.settings listed.list.items status text
       → IsRun named shelf note note status text
   answered_run answers = list_run (λ files are. own_end (record {
     catalog = listed.catalog;
@@ -107,7 +107,7 @@ module _ (named : Option AnyCommand) (shelf : Reads) (note : Note) (wanted : Wan
   }) refl)
 
   -- the list was refused
-  pub refused_run : IsListRefused wanted.command.choices.capacity listed.list.items status text
+  pub refused_run : IsListRefused wanted.command.settings.capacity listed.list.items status text
       → IsRun named shelf note note status text
   refused_run why = list_run (λ files are.
       stopped (by_file listed.catalog are.offers (unusable listed.list.items are.told why)) refl)
@@ -115,14 +115,14 @@ module _ (named : Option AnyCommand) (shelf : Reads) (note : Note) (wanted : Wan
 -- a run that planned its query in stages, which leaves the note as it was
 pub staged_run : (named : Option AnyCommand) (shelf : Reads) (note : Note) (wanted : Wanted) (staged : InStages)
     (status : Status) (text : List ℕ) → wanted.work ≡ works.Stages staged → IsWanted named shelf.held wanted
-    → IsStagedEnd staged.asked.query wanted.command.choices.capacity (stages_read staged.stages) status text
+    → IsStagedEnd staged.asked.query wanted.command.settings.capacity (stages_read staged.stages) status text
     → IsRun named shelf note note status text
 staged_run named shelf note wanted staged status text work is end =
     let (names, task, asks) = asked_for named shelf.held wanted (works.Stages staged) work is in
     task_run named shelf note note wanted status text is (stages names) task (own_end (record {
       query = staged.asked.query;
       asks = asks.asks;
-      end = subst (λ some. IsStagedEnd staged.asked.query wanted.command.choices.capacity some status text)
+      end = subst (λ some. IsStagedEnd staged.asked.query wanted.command.settings.capacity some status text)
           asks.stages_are end;
     }) refl)
 
@@ -142,15 +142,15 @@ checked_run named shelf note wanted checked status text work is end =
 
 -- a command that one worker does asks for work that one does
 pub work_for_one : (named : Option AnyCommand) (held : List ℕ → Option (List ℕ)) (wanted : Wanted) → AsksForOne named
-    → IsWanted named held wanted → IsWorkForOne wanted.work wanted.command.choices.workers
+    → IsWanted named held wanted → IsWorkForOne wanted.work wanted.command.settings.workers
 work_for_one named held wanted alone is =
     of_work wanted.work is.asks_for (subst AsksForOne is.named_is alone)
   where
-    choices : Choices
-    choices = wanted.command.choices
+    settings : Settings
+    settings = wanted.command.settings
 
     -- whatever the task is, it asks for one worker
-    one_worker : (task : AnyTask) → IsForOne task choices → choices.workers ≡ 1
+    one_worker : (task : AnyTask) → IsForOne task settings → settings.workers ≡ 1
     one_worker (plan files) for_one = for_one
     one_worker (gen input) for_one = for_one
     one_worker (stages named) for_one = absurd for_one
@@ -159,11 +159,11 @@ work_for_one named held wanted alone is =
     one_worker (replay file) for_one = for_one
     one_worker (batch files) for_one = for_one
 
-    of_work : (work : Work) → AsksFor (task_read wanted.command.task) choices.options held work
-        → IsForOne (task_read wanted.command.task) choices → IsWorkForOne work choices.workers
+    of_work : (work : Work) → AsksFor (task_read wanted.command.task) settings.options held work
+        → IsForOne (task_read wanted.command.task) settings → IsWorkForOne work settings.workers
     of_work (works.Query asked) asks for_one = one_worker (task_read wanted.command.task) for_one
     of_work (works.Stages staged) (names, task, asks) for_one =
-        absurd (subst (λ k. IsForOne k choices) task for_one)
+        absurd (subst (λ k. IsForOne k settings) task for_one)
     of_work (works.Check checked) asks for_one = one_worker (task_read wanted.command.task) for_one
     of_work (works.Dump dumped) asks for_one = one_worker (task_read wanted.command.task) for_one
     of_work (works.Replay again) asks for_one = one_worker (task_read wanted.command.task) for_one

@@ -4,12 +4,12 @@ use Rattle.query_core.specs.declared.options.Options.{Options}
 use Rattle.query_core.specs.declared.query.Query.{Query}
 use Rattle.command_line.specs.Command.{FileNames, PlanNames, ListNames, AnyTask, AnyCommand}
 use Rattle.command_line.specs.Command.{plan, gen, stages, check, dump, replay, batch}
-use Rattle.command_line.specs.declared.choices.Choices.{Choices}
+use Rattle.command_line.specs.declared.settings.Settings.{Settings}
 use Rattle.orca_cli.specs.Answers.{Note, IsSearchEnd, planned, unplanned, too_many}
 use Rattle.orca_cli.specs.Causes.{OneRose, ReadRose}
 use Rattle.orca_cli.specs.DumpCauses.{IsOfDumps, writes_one, reads_one}
 use Rattle.orca_cli.specs.Checked.{IsCheckEnd, priced, faulty}
-use Rattle.orca_cli.specs.Dumps.{dump_options, replay_choices, IsDumpEnd, written, too_long}
+use Rattle.orca_cli.specs.Dumps.{dump_options, replay_settings, IsDumpEnd, written, too_long}
 use Rattle.orca_cli.specs.Prepared.{Reads, generated_in, QueryStops, TaskStops, unread, unusable}
 use Rattle.orca_cli.specs.Prepared.{no_dump, no_query, over_none, over_catalog}
 use Rattle.orca_cli.specs.Prepared.{by_catalog, by_file, by_query, by_plan}
@@ -24,12 +24,12 @@ use Rattle.orca_cli.proofs.StagedEnds.{staged_status}
 -- ---- the statuses of endings
 
 -- a search ends with one of three statuses
-pub search_status : (Tells : List ℕ → List ℕ → Type 0) (choices : Choices) (query : Query) (note : Note)
+pub search_status : (Tells : List ℕ → List ℕ → Type 0) (settings : Settings) (query : Query) (note : Note)
     (status : Status)
-    (text : List ℕ) → IsSearchEnd Tells choices query note status text → IsOneOf searched status
-search_status Tells choices query note status text (planned is room lines is_plan goes notes) = inl is
-search_status Tells choices query note status text (unplanned is room impossible goes notes) = inr (inl is)
-search_status Tells choices query note status text (too_many is more line count notes) = inr (inr (inl is))
+    (text : List ℕ) → IsSearchEnd Tells settings query note status text → IsOneOf searched status
+search_status Tells settings query note status text (planned is room lines is_plan goes notes) = inl is
+search_status Tells settings query note status text (unplanned is room impossible goes notes) = inr (inl is)
+search_status Tells settings query note status text (too_many is more line count notes) = inr (inr (inl is))
 
 -- a search, a refusal, or a fault of a file whose count rose
 pub data EndedBy (task : AnyTask) (shelf : Reads) (status : Status) : Type 0 where
@@ -53,55 +53,55 @@ query_stop_status task files options shelf status text rises (by_file catalog of
 query_stop_status task files options shelf status text rises (by_file catalog offers (unusable bytes told why)) =
     by_refusal (inl why.refused)
 
-stop_status : (task : AnyTask) (choices : Choices) (shelf : Reads) (status : Status) (text : List ℕ)
-    → TaskStops task choices shelf status text → EndedBy task shelf status
-stop_status (plan files) choices shelf status text stop =
-    query_stop_status (plan files) files choices.options shelf status text (λ rose. rose) stop
-stop_status (gen input) choices shelf status text stop = absurd stop
-stop_status (stages named) choices shelf status text stop =
-    query_stop_status (stages named) named.files choices.options shelf status text (λ rose. rose) stop
-stop_status (check named) choices shelf status text (by_query stop) =
-    query_stop_status (check named) named.files choices.options shelf status text (λ rose. inl rose) stop
-stop_status (check named) choices shelf status text (by_plan query asks (unread is)) = by_fault is.fault (inr is.rose)
-stop_status (check named) choices shelf status text (by_plan query asks (unusable bytes told why)) =
+stop_status : (task : AnyTask) (settings : Settings) (shelf : Reads) (status : Status) (text : List ℕ)
+    → TaskStops task settings shelf status text → EndedBy task shelf status
+stop_status (plan files) settings shelf status text stop =
+    query_stop_status (plan files) files settings.options shelf status text (λ rose. rose) stop
+stop_status (gen input) settings shelf status text stop = absurd stop
+stop_status (stages named) settings shelf status text stop =
+    query_stop_status (stages named) named.files settings.options shelf status text (λ rose. rose) stop
+stop_status (check named) settings shelf status text (by_query stop) =
+    query_stop_status (check named) named.files settings.options shelf status text (λ rose. inl rose) stop
+stop_status (check named) settings shelf status text (by_plan query asks (unread is)) = by_fault is.fault (inr is.rose)
+stop_status (check named) settings shelf status text (by_plan query asks (unusable bytes told why)) =
     by_plan_text why.refused named refl
-stop_status (dump files) choices shelf status text stop =
-    query_stop_status (dump files) files choices.options shelf status text (λ rose. rose) stop
-stop_status (replay file) choices shelf status text (unread is) = by_fault is.fault is.rose
-stop_status (replay file) choices shelf status text (unusable bytes told (no_dump is)) =
+stop_status (dump files) settings shelf status text stop =
+    query_stop_status (dump files) files settings.options shelf status text (λ rose. rose) stop
+stop_status (replay file) settings shelf status text (unread is) = by_fault is.fault is.rose
+stop_status (replay file) settings shelf status text (unusable bytes told (no_dump is)) =
     by_dump is.refused (reads_one file refl)
-stop_status (replay file) choices shelf status text (unusable bytes told (no_query of_bytes says (over_none none))) =
+stop_status (replay file) settings shelf status text (unusable bytes told (no_query of_bytes says (over_none none))) =
     by_refusal (inr (inl none.refused))
-stop_status (replay file) choices shelf status text
+stop_status (replay file) settings shelf status text
     (unusable bytes told (no_query of_bytes says (over_catalog catalog read why))) = by_refusal (inl why.refused)
-stop_status (batch files) choices shelf status text (by_catalog (unread is)) = by_fault is.fault (inl is.rose)
-stop_status (batch files) choices shelf status text (by_catalog (unusable bytes told none)) =
+stop_status (batch files) settings shelf status text (by_catalog (unread is)) = by_fault is.fault (inl is.rose)
+stop_status (batch files) settings shelf status text (by_catalog (unusable bytes told none)) =
     by_refusal (inr (inl none.refused))
-stop_status (batch files) choices shelf status text (by_file catalog offers (unread is)) =
+stop_status (batch files) settings shelf status text (by_file catalog offers (unread is)) =
     by_fault is.fault (inr is.rose)
-stop_status (batch files) choices shelf status text (by_file catalog offers (unusable bytes told why)) =
+stop_status (batch files) settings shelf status text (by_file catalog offers (unusable bytes told why)) =
     by_list why.refused files refl
 
 -- stages end as a search; a batch, a dump and the check of a valid plan as one that found a plan
-own_status : (task : AnyTask) (choices : Choices) (shelf : Reads) (status : Status) (text : List ℕ)
-    → IsOwnEnd task choices shelf.held status text → EndedBy task shelf status
-own_status (plan files) choices shelf status text own = absurd own
-own_status (gen input) choices shelf status text own = absurd own
-own_status (stages named) choices shelf status text own =
-    by_search (staged_status own.query choices.capacity named.stages status text own.end)
-own_status (check named) choices shelf status text own = of_end own.end
+own_status : (task : AnyTask) (settings : Settings) (shelf : Reads) (status : Status) (text : List ℕ)
+    → IsOwnEnd task settings shelf.held status text → EndedBy task shelf status
+own_status (plan files) settings shelf status text own = absurd own
+own_status (gen input) settings shelf status text own = absurd own
+own_status (stages named) settings shelf status text own =
+    by_search (staged_status own.query settings.capacity named.stages status text own.end)
+own_status (check named) settings shelf status text own = of_end own.end
   where
     of_end : IsCheckEnd own.query own.plan status text → EndedBy (check named) shelf status
     of_end (priced is cost good line) = by_search (inl is)
     of_end (faulty is fault lasts has line) = by_plan_text is named refl
-own_status (dump files) choices shelf status text own = of_end own.ends
+own_status (dump files) settings shelf status text own = of_end own.ends
   where
-    of_end : IsDumpEnd own.select own.catalog own.asked (dump_options choices) status text
+    of_end : IsDumpEnd own.select own.catalog own.asked (dump_options settings) status text
         → EndedBy (dump files) shelf status
     of_end (written is within says) = by_search (inl is)
     of_end (too_long is long line) = by_dump is (writes_one files refl)
-own_status (replay file) choices shelf status text own = absurd own
-own_status (batch files) choices shelf status text own = by_search (inl own.is_batch.done)
+own_status (replay file) settings shelf status text own = absurd own
+own_status (batch files) settings shelf status text own = by_search (inl own.is_batch.done)
 
 -- a search that ended has finished
 pub of_search : (status : Status) → IsOneOf searched status → IsOneOf finished status
@@ -113,15 +113,16 @@ of_search status (inr (inr (inr none))) = absurd none
 pub ended_by : (command : AnyCommand) (shelf : Reads) (empty note : Note) (status : Status) (text : List ℕ)
     → IsEnding command shelf empty note status text → EndedBy command.task shelf status
 ended_by command shelf empty note status text (answered query asks found) =
-    by_search (search_status (Tells (generated_in command.task) command.choices query) command.choices query note status
+    by_search
+    (search_status (Tells (generated_in command.task) command.settings query) command.settings query note status
     text found)
 ended_by command shelf empty note status text (from_dump file task end) =
-    let chosen = replay_choices end.dump.options command.choices.workers in
+    let chosen = replay_settings end.dump.options command.settings.workers in
     by_search (search_status (Tells None chosen end.query) chosen end.query note status text end.ends)
 ended_by command shelf empty note status text (own_end own kept) =
-    own_status command.task command.choices shelf status text own
+    own_status command.task command.settings shelf status text own
 ended_by command shelf empty note status text (stopped stop kept) =
-    stop_status command.task command.choices shelf status text stop
+    stop_status command.task command.settings shelf status text stop
 
 module _ (task : AnyTask) (shelf : Reads) (status : Status) where
   -- no run of a command has the status of other words

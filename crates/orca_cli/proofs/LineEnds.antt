@@ -9,7 +9,7 @@ use Rattle.std.specs.declared.alloc.Global.{Global}
 use Rattle.batch_pool.specs.Runs.{IsRunOf}
 use Rattle.batch_pool.specs.declared.places.PoolRun.{PoolRun}
 use Rattle.query_core.specs.declared.catalog.Catalog.{Catalog}
-use Rattle.command_line.specs.declared.choices.Choices.{Choices}
+use Rattle.command_line.specs.declared.settings.Settings.{Settings}
 use Rattle.orca_cli.specs.Batches.{LineEnd, IsLineEnd, AreLineEnds, batch_line, query_line, texts_from, IsBatch}
 use Rattle.orca_cli.specs.Lists.{lines_of, list_cause}
 use Rattle.orca_cli.specs.Items.{EndsItem}
@@ -50,12 +50,12 @@ pub bytes_push : (texts : List (Vec ℕ Global)) (text : Vec ℕ Global)
 bytes_push texts text = flat_map-append (λ (t : Vec ℕ Global). t.items) texts (text ∷ [])
     ∙ ap (λ b. bytes_of_texts texts ++ b) (append-nil text.items)
 
-module _ (catalog : Catalog) (choices : Choices) where
+module _ (catalog : Catalog) (settings : Settings) where
   -- lines whose endings stand at their places end so
   pub ends_of_each : (lines : List (List ℕ)) (endings : List Ending) → length endings ≡ length lines
       → ((i : ℕ) (ending : Ending) → slice_get endings i ≡ Some ending → (line : List ℕ)
-      → slice_get lines i ≡ Some line → IsLineEnd catalog choices line (line_end ending))
-      → AreLineEnds catalog choices lines (map line_end endings)
+      → slice_get lines i ≡ Some line → IsLineEnd catalog settings line (line_end ending))
+      → AreLineEnds catalog settings lines (map line_end endings)
   ends_of_each [] [] as_many each = refl
   ends_of_each [] (ending ∷ more) as_many each = absurd (omega (arith, as_many))
   ends_of_each (line ∷ lines) [] as_many each = absurd (omega (arith, as_many))
@@ -66,11 +66,11 @@ module _ (catalog : Catalog) (choices : Choices) where
 
   -- a batch whose lines were run has their endings
   pub batch_of_run : (list : List ℕ) (lines : List (List ℕ)) (workers : ℕ) (run : PoolRun Ending) (made : Ending)
-      → lines ≡ lines_of list → list_cause choices.capacity list ≡ None
-      → IsRunOf (length lines) (EndsItem (record { catalog = catalog; choices = choices; lines = lines })) workers run
+      → lines ≡ lines_of list → list_cause settings.capacity list ≡ None
+      → IsRunOf (length lines) (EndsItem (record { catalog = catalog; settings = settings; lines = lines })) workers run
       → made.status ≡ Planned
       → text_of made ≡ batch_line (vec_len run.outputs) ++ texts_from 0 (map line_end run.outputs.items)
-      → IsBatch catalog choices list made.status (text_of made)
+      → IsBatch catalog settings list made.status (text_of made)
   batch_of_run list lines workers run made read usable is done text =
       let as_many = is.outputs_len in
       let ok = run.outputs.ok in
@@ -79,7 +79,7 @@ module _ (catalog : Catalog) (choices : Choices) where
         done = done;
         usable = usable;
         ends = map line_end run.outputs.items;
-        are_ends = subst (λ ls. AreLineEnds catalog choices ls (map line_end run.outputs.items)) read
+        are_ends = subst (λ ls. AreLineEnds catalog settings ls (map line_end run.outputs.items)) read
             (ends_of_each lines run.outputs.items (omega (arith, as_many, ok)) is.outputs);
         is_text = text ∙ ap (λ (n : ℕ). batch_line n ++ texts_from 0 (map line_end run.outputs.items)) count;
       }

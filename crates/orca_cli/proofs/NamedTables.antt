@@ -8,7 +8,7 @@ use Rattle.sql_reader.specs.declared.syntax.Select.{Select}
 use Rattle.sql_bind.specs.Binding.{binding, IsBound}
 use Rattle.dump_replay.specs.Laws.{BindsAlike, BoundAlike}
 use Rattle.dump_replay.specs.Named.{named_catalog}
-use Rattle.command_line.specs.declared.choices.Choices.{Choices}
+use Rattle.command_line.specs.declared.settings.Settings.{Settings}
 use Rattle.orca_cli.specs.Answers.{Note, IsAnswer, searched, turned_down}
 use Rattle.orca_cli.specs.Asked.{IsBoundAs, Asks, IsRefused}
 use Rattle.orca_cli.specs.declared.status.Status.{Status}
@@ -53,16 +53,16 @@ module _ (binds : BindsAlike) (bound : BoundAlike) (one : OneAnswer) (select : S
   }))
 
 -- the answer to a text over the tables that its FROM names is that over the whole catalogue
-pub whole_answer : BindsAlike → BoundAlike → OneAnswer → (select : Select) (catalog : Catalog) (choices : Choices)
+pub whole_answer : BindsAlike → BoundAlike → OneAnswer → (select : Select) (catalog : Catalog) (settings : Settings)
     (asked : List ℕ) → IsReading asked select → (note : Note) (status : Status) (text : List ℕ)
-    → IsAnswer (named_catalog select catalog) choices asked note status text
-    → IsAnswer catalog choices asked note status text
-whole_answer binds bound one select catalog choices asked reading note status text (searched query asks search) =
-    searched query (whole_asks binds bound one select catalog choices.options asked reading query asks) search
-whole_answer binds bound one select catalog choices asked reading note status text (turned_down why) =
+    → IsAnswer (named_catalog select catalog) settings asked note status text
+    → IsAnswer catalog settings asked note status text
+whole_answer binds bound one select catalog settings asked reading note status text (searched query asks search) =
+    searched query (whole_asks binds bound one select catalog settings.options asked reading query asks) search
+whole_answer binds bound one select catalog settings asked reading note status text (turned_down why) =
     turned_down (record {
       refused = why.refused;
       cause = why.cause;
-      no_query = whole_refused binds bound one select catalog choices.options asked reading why.cause why.no_query;
+      no_query = whole_refused binds bound one select catalog settings.options asked reading why.cause why.no_query;
       line = why.line;
     })

@@ -13,7 +13,7 @@ use Rattle.query_generator.specs.Select.{select_of}
 use Rattle.job_outcome.specs.Outcomes.{HasMoreEntries, FitsIn}
 use Rattle.command_line.specs.Command.{FileNames, StageNames, ListNames, AnyTask}
 use Rattle.command_line.specs.Command.{plan, gen, stages, check, dump, replay, batch}
-use Rattle.command_line.specs.declared.choices.Choices.{Choices}
+use Rattle.command_line.specs.declared.settings.Settings.{Settings}
 use Rattle.command_line.specs.declared.command.GenInput.{GenInput}
 use Rattle.orca_cli.specs.Answers.{HasRoom, Note, IsSearchEnd, planned, unplanned, too_many}
 use Rattle.orca_cli.specs.Answers.{IsAnswer, searched, turned_down}
@@ -27,7 +27,7 @@ use Rattle.orca_cli.specs.Prepared.{unread, unusable, FilesStop, by_catalog, by_
 use Rattle.orca_cli.specs.Run.{IsEnding, answered, from_dump, own_end, stopped}
 use Rattle.orca_cli.specs.Sections.{Tells}
 use Rattle.orca_cli.specs.Staged.{IsStagedEnd}
-use Rattle.orca_cli.specs.Status.{IsOneOf, settled, overflowed}
+use Rattle.orca_cli.specs.Status.{IsOneOf, concluded, overflowed}
 use Rattle.orca_cli.specs.declared.status.Status.{Status}
 use Rattle.orca_cli.proofs.OneQuery.{OneLinks}
 use Rattle.orca_cli.proofs.Refusals.{OneReading, one_query, never_refused}
@@ -89,53 +89,53 @@ asked_there files options shelf catalog asked holds query asks =
     (subst (λ t. Asks asks.catalog options t query) told asks.asked.asks)
 
 -- a run over files that hold a catalogue and a text ends with the answer to that text, where no count rose
-pub answer_of : (files : FileNames) (choices : Choices) (shelf : Reads) (catalog : Catalog) (asked : List ℕ)
+pub answer_of : (files : FileNames) (settings : Settings) (shelf : Reads) (catalog : Catalog) (asked : List ℕ)
     → Holds files.catalog files.query shelf.held catalog asked → (note : Note) (status : Status) (text : List ℕ)
     (empty : Note) → (ReadRose (plan files) shelf → ⊥)
-    → IsEnding (record { task = plan files; choices = choices }) shelf empty note status text
-    → IsAnswer catalog choices asked note status text
-answer_of files choices shelf catalog asked holds note status text empty no_read (answered query asks search) =
-    searched query (asked_there files choices.options shelf catalog asked holds query asks) search
-answer_of files choices shelf catalog asked holds note status text empty no_read (from_dump other task end) = cc
-answer_of files choices shelf catalog asked holds note status text empty no_read (own_end own kept) = absurd own
-answer_of files choices shelf catalog asked holds note status text empty no_read (stopped stop kept) =
+    → IsEnding (record { task = plan files; settings = settings }) shelf empty note status text
+    → IsAnswer catalog settings asked note status text
+answer_of files settings shelf catalog asked holds note status text empty no_read (answered query asks search) =
+    searched query (asked_there files settings.options shelf catalog asked holds query asks) search
+answer_of files settings shelf catalog asked holds note status text empty no_read (from_dump other task end) = cc
+answer_of files settings shelf catalog asked holds note status text empty no_read (own_end own kept) = absurd own
+answer_of files settings shelf catalog asked holds note status text empty no_read (stopped stop kept) =
     turned_down (refused_there files.catalog files.query shelf catalog asked holds
-    (λ k. IsQueryRefused k choices.options) status text stop no_read)
+    (λ k. IsQueryRefused k settings.options) status text stop no_read)
 
 -- and a batch with the answers to the lines of its list, or the list is refused
-pub batch_of : (files : ListNames) (choices : Choices) (shelf : Reads) (catalog : Catalog) (list : List ℕ)
+pub batch_of : (files : ListNames) (settings : Settings) (shelf : Reads) (catalog : Catalog) (list : List ℕ)
     → Holds files.catalog files.list shelf.held catalog list → (note : Note) (status : Status) (text : List ℕ)
     (empty : Note) → (ReadRose (batch files) shelf → ⊥)
-    → IsEnding (record { task = batch files; choices = choices }) shelf empty note status text
-    → IsListRefused choices.capacity list status text ⊎ IsBatch catalog choices list status text
-batch_of files choices shelf catalog list holds note status text empty no_read (answered query asks search) =
+    → IsEnding (record { task = batch files; settings = settings }) shelf empty note status text
+    → IsListRefused settings.capacity list status text ⊎ IsBatch catalog settings list status text
+batch_of files settings shelf catalog list holds note status text empty no_read (answered query asks search) =
     absurd asks
-batch_of files choices shelf catalog list holds note status text empty no_read (from_dump other task end) = cc
-batch_of files choices shelf catalog list holds note status text empty no_read (own_end own kept) =
+batch_of files settings shelf catalog list holds note status text empty no_read (from_dump other task end) = cc
+batch_of files settings shelf catalog list holds note status text empty no_read (own_end own kept) =
     let told = told_one (shelf.held files.list) own.list list own.told holds.text_told in
-    inr (subst (λ k. IsBatch k choices list status text)
+    inr (subst (λ k. IsBatch k settings list status text)
     (offered_there files.catalog files.list shelf catalog list holds own.catalog own.offers)
-    (subst (λ t. IsBatch own.catalog choices t status text) told own.is_batch))
-batch_of files choices shelf catalog list holds note status text empty no_read (stopped stop kept) =
-    inl (refused_there files.catalog files.list shelf catalog list holds (λ k. IsListRefused choices.capacity) status
+    (subst (λ t. IsBatch own.catalog settings t status text) told own.is_batch))
+batch_of files settings shelf catalog list holds note status text empty no_read (stopped stop kept) =
+    inl (refused_there files.catalog files.list shelf catalog list holds (λ k. IsListRefused settings.capacity) status
     text stop no_read)
 
 -- and one in stages with the end of the query for which the text asks, or the text is refused
-pub staged_of : (named : StageNames) (choices : Choices) (shelf : Reads) (catalog : Catalog) (asked : List ℕ)
+pub staged_of : (named : StageNames) (settings : Settings) (shelf : Reads) (catalog : Catalog) (asked : List ℕ)
     → Holds named.files.catalog named.files.query shelf.held catalog asked → (note : Note) (status : Status)
     → (text : List ℕ) (empty : Note) → (ReadRose (stages named) shelf → ⊥)
-    → IsEnding (record { task = stages named; choices = choices }) shelf empty note status text
-    → IsQueryRefused catalog choices.options asked status text
-    ⊎ ((query : Query) × Asks catalog choices.options asked query
-    × IsStagedEnd query choices.capacity named.stages status text)
-staged_of named choices shelf catalog asked holds note status text empty no_read (answered query asks search) =
+    → IsEnding (record { task = stages named; settings = settings }) shelf empty note status text
+    → IsQueryRefused catalog settings.options asked status text
+    ⊎ ((query : Query) × Asks catalog settings.options asked query
+    × IsStagedEnd query settings.capacity named.stages status text)
+staged_of named settings shelf catalog asked holds note status text empty no_read (answered query asks search) =
     absurd asks
-staged_of named choices shelf catalog asked holds note status text empty no_read (from_dump other task end) = cc
-staged_of named choices shelf catalog asked holds note status text empty no_read (own_end own kept) =
-    inr (own.query, asked_there named.files choices.options shelf catalog asked holds own.query own.asks, own.end)
-staged_of named choices shelf catalog asked holds note status text empty no_read (stopped stop kept) =
+staged_of named settings shelf catalog asked holds note status text empty no_read (from_dump other task end) = cc
+staged_of named settings shelf catalog asked holds note status text empty no_read (own_end own kept) =
+    inr (own.query, asked_there named.files settings.options shelf catalog asked holds own.query own.asks, own.end)
+staged_of named settings shelf catalog asked holds note status text empty no_read (stopped stop kept) =
     inl (refused_there named.files.catalog named.files.query shelf catalog asked holds
-    (λ k. IsQueryRefused k choices.options) status text stop no_read)
+    (λ k. IsQueryRefused k settings.options) status text stop no_read)
 
 -- what the layers below promise: a text has one reading or one fault, a query one list of links, and it has room or too
 -- many entries
@@ -161,42 +161,42 @@ room_or_more one query capacity room more = one.room query capacity room.members
 
 -- ---- searches
 
-module _ (one : OneAnswer) (Tells : List ℕ → List ℕ → Type 0) (choices : Choices) (query : Query) (note : Note)
+module _ (one : OneAnswer) (Tells : List ℕ → List ℕ → Type 0) (settings : Settings) (query : Query) (note : Note)
     (status : Status) (text : List ℕ) where
   -- the search of a query with room settles it
-  pub settled_search : HasRoom query choices.capacity → IsSearchEnd Tells choices query note status text
-      → IsOneOf settled status
+  pub settled_search : HasRoom query settings.capacity → IsSearchEnd Tells settings query note status text
+      → IsOneOf concluded status
   settled_search room (planned is has lines is_plan goes notes) = inl is
   settled_search room (unplanned is has impossible goes notes) = inr (inl is)
   settled_search room (too_many is more line count notes) =
-      absurd (room_or_more one query choices.capacity room more)
+      absurd (room_or_more one query settings.capacity room more)
 
   -- the search of a query with too many entries ends for want of room
-  pub overflow_search : HasMoreEntries query choices.capacity → IsSearchEnd Tells choices query note status text
+  pub overflow_search : HasMoreEntries query settings.capacity → IsSearchEnd Tells settings query note status text
       → IsOneOf overflowed status
   overflow_search more (planned is room lines is_plan goes notes) =
-      absurd (room_or_more one query choices.capacity room more)
+      absurd (room_or_more one query settings.capacity room more)
   overflow_search more (unplanned is room impossible goes notes) =
-      absurd (room_or_more one query choices.capacity room more)
+      absurd (room_or_more one query settings.capacity room more)
   overflow_search more (too_many is has line count notes) = inl is
 
-module _ (one : OneAnswer) (catalog : Catalog) (choices : Choices) (asked : List ℕ) (note : Note) (status : Status)
+module _ (one : OneAnswer) (catalog : Catalog) (settings : Settings) (asked : List ℕ) (note : Note) (status : Status)
     (text : List ℕ) where
   -- the answer to a text that asks for a query is the search of this query
-  pub search_of : (q : Query) → Asks catalog choices.options asked q → IsAnswer catalog choices asked note status text
-      → IsSearchEnd (Tells None choices q) choices q note status text
+  pub search_of : (q : Query) → Asks catalog settings.options asked q → IsAnswer catalog settings asked note status text
+      → IsSearchEnd (Tells None settings q) settings q note status text
   search_of q asks (searched query asks_too is) =
-      subst (λ r. IsSearchEnd (Tells None choices r) choices r note status text)
-      (one_query one.reading catalog choices.options asked one.links query q asks_too.bound asks.bound) is
+      subst (λ r. IsSearchEnd (Tells None settings r) settings r note status text)
+      (one_query one.reading catalog settings.options asked one.links query q asks_too.bound asks.bound) is
   search_of q asks (turned_down why) =
-      absurd (never_refused one.reading catalog choices.options asked q why.cause asks why.no_query)
+      absurd (never_refused one.reading catalog settings.options asked q why.cause asks why.no_query)
 
   -- the answer to a text that is refused is a refusal
-  pub refusal_of : (cause : List ℕ) → IsRefused catalog choices.options asked cause
-      → IsAnswer catalog choices asked note status text
-      → IsQueryRefused catalog choices.options asked status text
+  pub refusal_of : (cause : List ℕ) → IsRefused catalog settings.options asked cause
+      → IsAnswer catalog settings asked note status text
+      → IsQueryRefused catalog settings.options asked status text
   refusal_of cause why (searched query asks is) =
-      absurd (never_refused one.reading catalog choices.options asked query cause asks why)
+      absurd (never_refused one.reading catalog settings.options asked query cause asks why)
   refusal_of cause why (turned_down is) = is
 
 -- what is generated asks for one query
@@ -207,21 +207,22 @@ one_generated one input options q r made again =
     (canonical_text (select_of input.shape input.tables)) one.links q r made.bound again.bound
 
 -- a run of a command that surely asks for a query, in which no count of its files rose, ends with the query's search
-pub sure_search : OneAnswer → (task : AnyTask) (choices : Choices) (shelf : Reads) (empty note : Note) (status : Status)
-    (text : List ℕ) (query : Query) → SurelyAsks task choices.options shelf.held query → (ReadRose task shelf → ⊥)
-    → IsEnding (record { task = task; choices = choices }) shelf empty note status text
-    → IsSearchEnd (Tells (generated_in task) choices query) choices query note status text
-sure_search one (plan files) choices shelf empty note status text query sure no_read ending =
-    search_of one sure.catalog choices sure.text note status text query sure.asks
-    (answer_of files choices shelf sure.catalog sure.text sure.holds note status text empty no_read ending)
-sure_search one (gen input) choices shelf empty note status text query made no_read (answered other again search) =
-    subst (λ r. IsSearchEnd (Tells (Some input) choices r) choices r note status text)
-    (one_generated one input choices.options other query again made) search
-sure_search one (gen input) choices shelf empty note status text query made no_read (from_dump other task end) = cc
-sure_search one (gen input) choices shelf empty note status text query made no_read (own_end own kept) = absurd own
-sure_search one (gen input) choices shelf empty note status text query made no_read (stopped stop kept) = absurd stop
-sure_search one (stages named) choices shelf empty note status text query sure no_read ending = absurd sure
-sure_search one (check named) choices shelf empty note status text query sure no_read ending = absurd sure
-sure_search one (dump files) choices shelf empty note status text query sure no_read ending = absurd sure
-sure_search one (replay file) choices shelf empty note status text query sure no_read ending = absurd sure
-sure_search one (batch files) choices shelf empty note status text query sure no_read ending = absurd sure
+pub sure_search : OneAnswer
+    → (task : AnyTask) (settings : Settings) (shelf : Reads) (empty note : Note) (status : Status)
+    (text : List ℕ) (query : Query) → SurelyAsks task settings.options shelf.held query → (ReadRose task shelf → ⊥)
+    → IsEnding (record { task = task; settings = settings }) shelf empty note status text
+    → IsSearchEnd (Tells (generated_in task) settings query) settings query note status text
+sure_search one (plan files) settings shelf empty note status text query sure no_read ending =
+    search_of one sure.catalog settings sure.text note status text query sure.asks
+    (answer_of files settings shelf sure.catalog sure.text sure.holds note status text empty no_read ending)
+sure_search one (gen input) settings shelf empty note status text query made no_read (answered other again search) =
+    subst (λ r. IsSearchEnd (Tells (Some input) settings r) settings r note status text)
+    (one_generated one input settings.options other query again made) search
+sure_search one (gen input) settings shelf empty note status text query made no_read (from_dump other task end) = cc
+sure_search one (gen input) settings shelf empty note status text query made no_read (own_end own kept) = absurd own
+sure_search one (gen input) settings shelf empty note status text query made no_read (stopped stop kept) = absurd stop
+sure_search one (stages named) settings shelf empty note status text query sure no_read ending = absurd sure
+sure_search one (check named) settings shelf empty note status text query sure no_read ending = absurd sure
+sure_search one (dump files) settings shelf empty note status text query sure no_read ending = absurd sure
+sure_search one (replay file) settings shelf empty note status text query sure no_read ending = absurd sure
+sure_search one (batch files) settings shelf empty note status text query sure no_read ending = absurd sure

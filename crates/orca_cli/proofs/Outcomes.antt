@@ -9,7 +9,7 @@ use Rattle.plan_space.specs.Nodes.{Tree}
 use Rattle.plan_space.specs.Least.{IsLeastPlan}
 use Rattle.plan_lines.specs.Text.{plan_section}
 use Rattle.command_line.specs.Command.{FileNames, plan, gen}
-use Rattle.command_line.specs.declared.choices.Choices.{Choices}
+use Rattle.command_line.specs.declared.settings.Settings.{Settings}
 use Rattle.orca_cli.specs.Asked.{SaysCatalog, IsNoCatalog, Asks}
 use Rattle.orca_cli.specs.Answers.{Note, IsPlanText, IsSearchEnd, planned, unplanned, too_many}
 use Rattle.orca_cli.specs.Answers.{IsAnswer, searched, turned_down}
@@ -45,71 +45,72 @@ pub record OneOf : Type 0 where
   least : OneLeast
   sections : OneSections
 
-module _ (one : OneOf) (q : Query) (within : IsWithinLimits q) (choices : Choices) (workers more : ℕ)
+module _ (one : OneOf) (q : Query) (within : IsWithinLimits q) (settings : Settings) (workers more : ℕ)
     (Told Again : List ℕ → List ℕ → Type 0) (AreSame : List ℕ → List ℕ → Type 0)
     (told : (lines text other : List ℕ) → Told lines text → Again lines other → AreSame text other)
     (equal : (text other : List ℕ) → text ≡ other → AreSame text other)
     (note later : Note) (first second : Status) (text other : List ℕ) where
   -- two searches of one query end in one way
-  one_search : IsSearchEnd Told (by workers choices) q note first text
-      → IsSearchEnd Again (by more choices) q later second other → (first ≡ second) × AreSame text other
+  one_search : IsSearchEnd Told (by workers settings) q note first text
+      → IsSearchEnd Again (by more settings) q later second other → (first ≡ second) × AreSame text other
   one_search (planned a room lines is goes notes) (planned b room_too lines_too is_too goes_too notes_too) =
       let same = one_text one.least q q lines lines_too within refl is is_too in
       (a ∙ sym b, told lines text other goes (subst (λ l. Again l other) (sym same) goes_too))
   one_search (planned a room lines is goes notes) (unplanned b room_too none goes_too notes_too) =
       absurd (none is.plan is.least.serves)
   one_search (planned a room lines is goes notes) (too_many b many line count notes_too) =
-      absurd (room_or_more one.answer q choices.capacity room many)
+      absurd (room_or_more one.answer q settings.capacity room many)
   one_search (unplanned a room none goes notes) (planned b room_too lines is goes_too notes_too) =
       absurd (none is.plan is.least.serves)
   one_search (unplanned a room none goes notes) (unplanned b room_too none_too goes_too notes_too) =
       (a ∙ sym b, told texts.no_plan text other goes goes_too)
   one_search (unplanned a room none goes notes) (too_many b many line count notes_too) =
-      absurd (room_or_more one.answer q choices.capacity room many)
+      absurd (room_or_more one.answer q settings.capacity room many)
   one_search (too_many a many line count notes) (planned b room lines is goes notes_too) =
-      absurd (room_or_more one.answer q choices.capacity room many)
+      absurd (room_or_more one.answer q settings.capacity room many)
   one_search (too_many a many line count notes) (unplanned b room none goes notes_too) =
-      absurd (room_or_more one.answer q choices.capacity room many)
+      absurd (room_or_more one.answer q settings.capacity room many)
   one_search (too_many a many line count notes) (too_many b many_too line_too finished_too notes_too) =
       (a ∙ sym b, equal text other (line ∙ sym line_too))
 
-module _ (one : OneOf) (catalog : Catalog) (choices : Choices) (workers more : ℕ) (asked : List ℕ) (note later : Note)
+module _ (one : OneOf) (catalog : Catalog) (settings : Settings) (workers more : ℕ) (asked : List ℕ) (note later : Note)
     (first second : Status) (text other : List ℕ) where
   -- two answers to one text over one catalogue are the same
-  pub same_answers : IsAnswer catalog (by workers choices) asked note first text
-      → IsAnswer catalog (by more choices) asked later second other → Same choices workers more first second text other
+  pub same_answers : IsAnswer catalog (by workers settings) asked note first text
+      → IsAnswer catalog (by more settings) asked later second other
+      → Same settings workers more first second text other
   same_answers (searched q asks is) (searched r asks_too is_too) =
-      let same : q ≡ r = one_query one.answer.reading catalog choices.options asked one.answer.links q r asks.bound
+      let same : q ≡ r = one_query one.answer.reading catalog settings.options asked one.answer.links q r asks.bound
       asks_too.bound in
-      let (status, texts) = one_search one q asks.within choices workers more (Tells None (by workers choices) q)
-      (Tells None (by more choices) q) (SameTexts choices workers more)
-      (λ lines t o goes goes_too. sections_same choices workers more q one.sections lines lines t o asks.within refl
+      let (status, texts) = one_search one q asks.within settings workers more (Tells None (by workers settings) q)
+      (Tells None (by more settings) q) (SameTexts settings workers more)
+      (λ lines t o goes goes_too. sections_same settings workers more q one.sections lines lines t o asks.within refl
       goes
       goes_too)
-      (same_texts choices workers more) note later first second text other is
-      (subst (λ q. IsSearchEnd (Tells None (by more choices) q) (by more choices) q later second other) (sym same)
+      (same_texts settings workers more) note later first second text other is
+      (subst (λ q. IsSearchEnd (Tells None (by more settings) q) (by more settings) q later second other) (sym same)
       is_too) in
       record { status = status; texts = texts }
   same_answers (searched q asks is) (turned_down why) =
-      absurd (never_refused one.answer.reading catalog choices.options asked q why.cause asks why.no_query)
+      absurd (never_refused one.answer.reading catalog settings.options asked q why.cause asks why.no_query)
   same_answers (turned_down why) (searched r asks is) =
-      absurd (never_refused one.answer.reading catalog choices.options asked r why.cause asks why.no_query)
+      absurd (never_refused one.answer.reading catalog settings.options asked r why.cause asks why.no_query)
   same_answers (turned_down why) (turned_down again) =
       let same : text ≡ other = why.line ∙ ap texts.query_refused
-      (one_cause one.answer.reading catalog choices.options asked why.cause again.cause why.no_query again.no_query)
+      (one_cause one.answer.reading catalog settings.options asked why.cause again.cause why.no_query again.no_query)
       ∙ sym again.line in
       record {
         status = why.refused ∙ sym again.refused;
-        texts = same_texts choices workers more text other same;
+        texts = same_texts settings workers more text other same;
       }
 
 -- how a run over known bytes ends
-pub data Known (bytes : List ℕ) (choices : Choices) (asked : List ℕ) (note : Note) (status : Status) (text : List ℕ) :
+pub data Known (bytes : List ℕ) (settings : Settings) (asked : List ℕ) (note : Note) (status : Status) (text : List ℕ) :
     Type 0
   where
-    over : (catalog : Catalog) → SaysCatalog bytes catalog → IsAnswer catalog choices asked note status text
-        → Known bytes choices asked note status text
-    without : IsCatalogRefused bytes status text → Known bytes choices asked note status text
+    over : (catalog : Catalog) → SaysCatalog bytes catalog → IsAnswer catalog settings asked note status text
+        → Known bytes settings asked note status text
+    without : IsCatalogRefused bytes status text → Known bytes settings asked note status text
 
 -- no outcome is a read fault
 never_fault : (status : Status) → IsOneOf by_files status → status ≡ ReadFault → ⊥
@@ -121,23 +122,23 @@ never_fault status (inr (inr (inr (inr (inl is))))) fault = cc
 never_fault status (inr (inr (inr (inr (inr none))))) fault = absurd none
 
 -- what the shelf tells of both files
-pub known_of : (files : FileNames) (choices : Choices) (held : List ℕ → Option (List ℕ)) (bytes asked : List ℕ)
-    (status : Status) (text : List ℕ) → (o : Outcome files choices held bytes asked status text)
-    → IsEnding (record { task = plan files; choices = choices }) (reads held o.before o.after) o.empty o.note status
+pub known_of : (files : FileNames) (settings : Settings) (held : List ℕ → Option (List ℕ)) (bytes asked : List ℕ)
+    (status : Status) (text : List ℕ) → (o : Outcome files settings held bytes asked status text)
+    → IsEnding (record { task = plan files; settings = settings }) (reads held o.before o.after) o.empty o.note status
     text
-    → Known bytes choices asked o.note status text
-known_of files choices held bytes asked status text o (answered query asks search) =
+    → Known bytes settings asked o.note status text
+known_of files settings held bytes asked status text o (answered query asks search) =
     over asks.catalog (subst (λ b. SaysCatalog b asks.catalog)
     (told_one (held files.catalog) asks.offers.bytes bytes asks.offers.told o.catalog_told) asks.offers.says)
-    (searched query (subst (λ t. Asks asks.catalog choices.options t query)
+    (searched query (subst (λ t. Asks asks.catalog settings.options t query)
     (told_one (held files.query) asks.asked.asked asked asks.asked.told o.query_told) asks.asked.asks) search)
-known_of files choices held bytes asked status text o (from_dump other task end) = cc
-known_of files choices held bytes asked status text o (own_end own kept) = absurd own
-known_of files choices held bytes asked status text o (stopped stop kept) = of_stop stop
+known_of files settings held bytes asked status text o (from_dump other task end) = cc
+known_of files settings held bytes asked status text o (own_end own kept) = absurd own
+known_of files settings held bytes asked status text o (stopped stop kept) = of_stop stop
   where
-    of_stop : FilesStop (λ k. IsQueryRefused k choices.options) files.catalog files.query
+    of_stop : FilesStop (λ k. IsQueryRefused k settings.options) files.catalog files.query
         (reads held o.before o.after) status text
-        → Known bytes choices asked o.note status text
+        → Known bytes settings asked o.note status text
     of_stop (by_catalog (unread is)) = absurd (never_fault status o.decided is.fault)
     of_stop (by_catalog (unusable other told none)) =
         without (subst (λ b. IsCatalogRefused b status text)
@@ -146,7 +147,7 @@ known_of files choices held bytes asked status text o (stopped stop kept) = of_s
     of_stop (by_file catalog offers (unusable other told why)) =
         over catalog (subst (λ b. SaysCatalog b catalog)
         (told_one (held files.catalog) offers.bytes bytes offers.told o.catalog_told) offers.says)
-        (turned_down (subst (λ t. IsQueryRefused catalog choices.options t status text)
+        (turned_down (subst (λ t. IsQueryRefused catalog settings.options t status text)
         (told_one (held files.query) other asked told o.query_told) why))
 
 -- bytes that are no catalogue have one cause
@@ -157,26 +158,26 @@ one_fault bytes cause other is again =
     let fault : is.fault ≡ again.fault = cc in
     is.caused ∙ ap texts.catalog_cause fault ∙ sym again.caused
 
-pub same_known : OneOf → (bytes : List ℕ) (choices : Choices) (workers more : ℕ) (asked : List ℕ) (note later : Note)
-    (first second : Status) (text other : List ℕ) → Known bytes (by workers choices) asked note first text
-    → Known bytes (by more choices) asked later second other
-    → Same choices workers more first second text other
-same_known one bytes choices workers more asked note later first second text other (over k says is)
+pub same_known : OneOf → (bytes : List ℕ) (settings : Settings) (workers more : ℕ) (asked : List ℕ) (note later : Note)
+    (first second : Status) (text other : List ℕ) → Known bytes (by workers settings) asked note first text
+    → Known bytes (by more settings) asked later second other
+    → Same settings workers more first second text other
+same_known one bytes settings workers more asked note later first second text other (over k says is)
     (over l says_too is_too) =
     let same = one_catalog bytes l k says_too says in
-    same_answers one k choices workers more asked note later first second text other is
-    (subst (λ c. IsAnswer c (by more choices) asked later second other) same is_too)
-same_known one bytes choices workers more asked note later first second text other (over k says is) (without none) =
+    same_answers one k settings workers more asked note later first second text other is
+    (subst (λ c. IsAnswer c (by more settings) asked later second other) same is_too)
+same_known one bytes settings workers more asked note later first second text other (over k says is) (without none) =
     absurd (some_catalog bytes none.cause k says none.no_catalog)
-same_known one bytes choices workers more asked note later first second text other (without none) (over k says is) =
+same_known one bytes settings workers more asked note later first second text other (without none) (over k says is) =
     absurd (some_catalog bytes none.cause k says none.no_catalog)
-same_known one bytes choices workers more asked note later first second text other (without none) (without again) =
+same_known one bytes settings workers more asked note later first second text other (without none) (without again) =
     let same : text ≡ other = none.line
     ∙ ap texts.catalog_refused (one_fault bytes none.cause again.cause none.no_catalog again.no_catalog)
     ∙ sym again.line in
     record {
       status = none.refused ∙ sym again.refused;
-      texts = same_texts choices workers more text other same;
+      texts = same_texts settings workers more text other same;
     }
 
 -- what makes outcomes one, of their parts
@@ -188,20 +189,20 @@ one_of answer sections least = record { answer = answer; least = least; sections
 -- two runs of `gen` over one input have one outcome
 pub one_generated_of : OneAnswer → OneSections
     → ((q : Query) (s t : Tree) → IsWithinLimits q → IsLeastPlan q s → IsLeastPlan q t → s ≡ t) → OneGenerated
-one_generated_of answer sections least input choices workers more first second text other is again =
+one_generated_of answer sections least input settings workers more first second text other is again =
     of_endings is.ends again.ends
   where
-    of_endings : IsEnding (record { task = gen input; choices = by workers choices }) is.shelf is.empty is.note first
-        text → IsEnding (record { task = gen input; choices = by more choices }) again.shelf again.empty again.note
+    of_endings : IsEnding (record { task = gen input; settings = by workers settings }) is.shelf is.empty is.note first
+        text → IsEnding (record { task = gen input; settings = by more settings }) again.shelf again.empty again.note
         second
         other → (first ≡ second) × (text ≡ other)
     of_endings (answered q made search) (answered r made_too search_too) =
-        let same : q ≡ r = one_generated answer input choices.options q r made made_too in
-        one_search (one_of answer sections least) q made.within choices workers more
-        (Tells (Some input) (by workers choices) q) (Tells (Some input) (by more choices) q) (λ t o. t ≡ o)
+        let same : q ≡ r = one_generated answer input settings.options q r made made_too in
+        one_search (one_of answer sections least) q made.within settings workers more
+        (Tells (Some input) (by workers settings) q) (Tells (Some input) (by more settings) q) (λ t o. t ≡ o)
         (λ lines t o goes goes_too. first_lines_one sections input q lines lines t o refl goes goes_too) (λ t o e. e)
         is.note again.note first second text other search
-        (subst (λ q. IsSearchEnd (Tells (Some input) (by more choices) q) (by more choices) q again.note second other)
+        (subst (λ q. IsSearchEnd (Tells (Some input) (by more settings) q) (by more settings) q again.note second other)
         (sym same) search_too)
     of_endings (from_dump other task end) ending = cc
     of_endings (own_end own kept) ending = absurd own
@@ -213,9 +214,9 @@ one_generated_of answer sections least input choices workers more first second t
 -- two runs over the same bytes have one outcome
 pub one_outcome_of : OneAnswer → OneSections
     → ((q : Query) (s t : Tree) → IsWithinLimits q → IsLeastPlan q s → IsLeastPlan q t → s ≡ t) → OneOutcome
-one_outcome_of answer sections least files others choices workers more held told bytes asked first second text other o
+one_outcome_of answer sections least files others settings workers more held told bytes asked first second text other o
     again =
-    same_known (one_of answer sections least) bytes choices workers more asked o.note again.note first
+    same_known (one_of answer sections least) bytes settings workers more asked o.note again.note first
     second text other
-    (known_of files (by workers choices) held bytes asked first text o o.ends)
-    (known_of others (by more choices) told bytes asked second other again again.ends)
+    (known_of files (by workers settings) held bytes asked first text o o.ends)
+    (known_of others (by more settings) told bytes asked second other again again.ends)

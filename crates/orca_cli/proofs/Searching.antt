@@ -6,7 +6,7 @@ use Rattle.plan_tree.specs.declared.plan.Found.{Found}
 use Rattle.plan_tree.specs.declared.plan.Found.TheVariants as founds
 use Rattle.plan_lines.specs.Found.{IsFoundText}
 use Rattle.job_engine.specs.Runs.{Exceeds}
-use Rattle.command_line.specs.declared.choices.Choices.{Choices}
+use Rattle.command_line.specs.declared.settings.Settings.{Settings}
 use Rattle.orca_cli.specs.Answers.{HasRoom, Note, noted, NotesGoals, IsSearchEnd, planned, unplanned, too_many}
 use Rattle.orca_cli.specs.Searches as searches
 use Rattle.orca_cli.specs.Searches.{IsPlanOf}
@@ -30,11 +30,11 @@ plan_of_found query (founds.Least plan cost) status text is (tree, spells, least
     searches.least is (record { plan = tree; least = least; lines = told tree spells least.serves.valid costs })
 plan_of_found query founds.NoPlan status text is impossible told = searches.none is impossible told
 
-module _ (Tells : List ℕ → List ℕ → Type 0) (choices : Choices) (query : Query) (note : Note)
-    (room : HasRoom query choices.capacity) (notes : NotesGoals choices query note) where
+module _ (Tells : List ℕ → List ℕ → Type 0) (settings : Settings) (query : Query) (note : Note)
+    (room : HasRoom query settings.capacity) (notes : NotesGoals settings query note) where
   -- the plan of a query for which there is room, and what is printed for it
   plan_searched : (status : Status) (front text : List ℕ) → IsPlanOf query status front → Tells front text
-      → IsSearchEnd Tells choices query note status text
+      → IsSearchEnd Tells settings query note status text
   plan_searched status front text (searches.least is plan) goes = planned is room front plan goes notes
   plan_searched status front text (searches.none is impossible line) goes =
       unplanned is room impossible (subst (λ front. Tells front text) line goes) notes
@@ -42,14 +42,14 @@ module _ (Tells : List ℕ → List ℕ → Type 0) (choices : Choices) (query :
   -- the ending with what is printed for its plan
   pub followed_searched : (status : Status) (front : List ℕ) (made : Ending) → IsPlanOf query status front
       → made.status ≡ status → Tells front (text_of made)
-      → IsSearchEnd Tells choices query note made.status (text_of made)
+      → IsSearchEnd Tells settings query note made.status (text_of made)
   followed_searched status front made plan same goes =
       plan_searched made.status front (text_of made) (subst (λ s. IsPlanOf query s front) (sym same) plan) goes
 
 -- the ending of a search with too many entries
-pub full_ended : (Tells : List ℕ → List ℕ → Type 0) (choices : Choices) (query : Query) (note : Note) (told : ℕ)
-    (ending : Ending) → Exceeds query choices.capacity told → (count : ℕ) × (note ≡ noted choices count)
+pub full_ended : (Tells : List ℕ → List ℕ → Type 0) (settings : Settings) (query : Query) (note : Note) (told : ℕ)
+    (ending : Ending) → Exceeds query settings.capacity told → (count : ℕ) × (note ≡ noted settings count)
     → EndsAs ending TooManyEntries (texts.too_many_entries told)
-    → IsSearchEnd Tells choices query note ending.status (text_of ending)
-full_ended Tells choices query note told ending full (count, is) ends =
+    → IsSearchEnd Tells settings query note ending.status (text_of ending)
+full_ended Tells settings query note told ending full (count, is) ends =
     too_many ends.status full.more (ends.text ∙ ap texts.too_many_entries full.same) count is

@@ -8,7 +8,7 @@ use Rattle.goal_children.specs.Listed.{AreGoalsOf}
 use Rattle.job_trace.specs.Memo as memos
 use Rattle.job_trace.specs.Trace as traces
 use Rattle.job_trace.specs.Trace.{IsTraceText}
-use Rattle.command_line.specs.declared.choices.Choices.{Choices}
+use Rattle.command_line.specs.declared.settings.Settings.{Settings}
 use Rattle.command_line.specs.declared.command.GenInput.{GenInput}
 use Rattle.orca_cli.specs.Laws.{by, AreLines, SameTexts}
 use Rattle.orca_cli.specs.Sections.{IsMemo, IsTrace, StartsMemo, StartsTrace, IsSectionText, IsWhere, GoesOn}
@@ -45,19 +45,19 @@ trace_one one q text other within is again =
     (subst (λ gs. IsTraceText q is.members gs other) (sym goals)
     (subst (λ ms. IsTraceText q ms again.goals other) (sym members) again.is_text))
 
-module _ (choices : Choices) (workers more : ℕ) (q : Query) where
+module _ (settings : Settings) (workers more : ℕ) (q : Query) where
   -- what stands where it is asked for is one, where the section's text is
   where_one : (asked : Bool) (section : Section) (text other : List ℕ)
-      → ((t o : List ℕ) → IsSectionText (by workers choices) q section t → IsSectionText (by more choices) q section o
+      → ((t o : List ℕ) → IsSectionText (by workers settings) q section t → IsSectionText (by more settings) q section o
       → t ≡ o)
-      → IsWhere asked (by workers choices) q section text → IsWhere asked (by more choices) q section other
+      → IsWhere asked (by workers settings) q section text → IsWhere asked (by more settings) q section other
       → text ≡ other
   where_one true section text other one is again = one text other is again
   where_one false section text other one is again = is ∙ sym again
 
   -- the lines by worker, where they are asked for
-  lines_by : (asked : Bool) (lines others : List ℕ) → IsWhere asked (by workers choices) q sections.ByWorker lines
-      → IsWhere asked (by more choices) q sections.ByWorker others → AreLines asked workers more lines others
+  lines_by : (asked : Bool) (lines others : List ℕ) → IsWhere asked (by workers settings) q sections.ByWorker lines
+      → IsWhere asked (by more settings) q sections.ByWorker others → AreLines asked workers more lines others
   lines_by true lines others is again = inr (q, is, again)
   lines_by false lines others is again = (is, again)
 
@@ -69,15 +69,15 @@ module _ (choices : Choices) (workers more : ℕ) (q : Query) where
 
   -- so all sections behind one front are one text up to the lines by worker
   pub sections_same : OneSections → (front fore text other : List ℕ) → IsWithinLimits q → front ≡ fore
-      → GoesOn (by workers choices) q front text → GoesOn (by more choices) q fore other
-      → SameTexts choices workers more text other
+      → GoesOn (by workers settings) q front text → GoesOn (by more settings) q fore other
+      → SameTexts settings workers more text other
   sections_same one front fore text other within fronts (memo, behind, (trace, traced, (crew, crewed, whole)))
       (memo_too, behind_too, (trace_too, traced_too, (crew_too, crewed_too, whole_too))) =
-      let memos_one = where_one choices.memo sections.Memo behind.added behind_too.added
+      let memos_one = where_one settings.memo sections.Memo behind.added behind_too.added
       (λ t o is again. memo_one one q t o is again) behind.is_added behind_too.is_added in
       let middles = joined_one front fore behind.added behind_too.added memo memo_too fronts memos_one behind.joined
       behind_too.joined in
-      let traces_one = where_one choices.trace sections.Trace traced.added traced_too.added
+      let traces_one = where_one settings.trace sections.Trace traced.added traced_too.added
       (λ t o is again. trace_one one q t o within is again) traced.is_added traced_too.is_added in
       let both = joined_one memo memo_too traced.added traced_too.added trace trace_too middles traces_one traced.joined
       traced_too.joined in
@@ -87,7 +87,7 @@ module _ (choices : Choices) (workers more : ℕ) (q : Query) where
         others = crewed_too.added;
         whole = whole ∙ crewed.joined;
         other_whole = whole_too ∙ crewed_too.joined ∙ ap (λ f. f ++ crewed_too.added) (sym both);
-        are_lines = lines_by choices.by_worker crewed.added crewed_too.added crewed.is_added crewed_too.is_added;
+        are_lines = lines_by settings.by_worker crewed.added crewed_too.added crewed.is_added crewed_too.is_added;
       }
 
 -- no lines by worker
@@ -96,21 +96,21 @@ no_lines true workers more = inl (refl, refl)
 no_lines false workers more = (refl, refl)
 
 -- texts that are the same
-pub same_texts : (choices : Choices) (workers more : ℕ) (text other : List ℕ) → text ≡ other
-    → SameTexts choices workers more text other
-same_texts choices workers more text other same = record {
+pub same_texts : (settings : Settings) (workers more : ℕ) (text other : List ℕ) → text ≡ other
+    → SameTexts settings workers more text other
+same_texts settings workers more text other same = record {
   front = text;
   lines = [];
   others = [];
   whole = sym (append-nil text);
   other_whole = sym same ∙ sym (append-nil text);
-  are_lines = no_lines choices.by_worker workers more;
+  are_lines = no_lines settings.by_worker workers more;
 }
 
 -- texts that are one up to the lines by worker are the same where these aren't asked for
-pub equal_texts : (choices : Choices) (workers more : ℕ) (text other : List ℕ) → choices.by_worker ≡ false
-    → SameTexts choices workers more text other → text ≡ other
-equal_texts choices workers more text other plain same =
+pub equal_texts : (settings : Settings) (workers more : ℕ) (text other : List ℕ) → settings.by_worker ≡ false
+    → SameTexts settings workers more text other → text ≡ other
+equal_texts settings workers more text other plain same =
     let none : AreLines false workers more same.lines same.others =
     subst (λ asked. AreLines asked workers more same.lines same.others) plain same.are_lines in
     same.whole ∙ ap (λ l. same.front ++ l) (none.0 ∙ sym none.1) ∙ sym same.other_whole

@@ -26,7 +26,7 @@ use Rattle.command_line.specs.Stages.{AnyStage}
 use Rattle.orca_cli.specs.Answers.{HasRoom}
 use Rattle.orca_cli.specs.Causes.{HaveRoom}
 use Rattle.orca_cli.specs.Staged.{stage_lines, TellsAnswer, IsStagedEnd}
-use Rattle.orca_cli.specs.Status.{IsOneOf, searched, settled}
+use Rattle.orca_cli.specs.Status.{IsOneOf, searched, concluded}
 use Rattle.orca_cli.specs.Texts as texts
 use Rattle.orca_cli.specs.declared.status.Status.{Status}
 use Rattle.orca_cli.specs.declared.status.Status.TheVariants.{Planned, NoPlan, TooManyEntries}
@@ -140,7 +140,7 @@ last_room P (first ∷ before) rest last all = last_room P before rest last (All
 
 -- with room in each stage there is an answer
 pub settled_stages : OneAnswer → (q : Query) (capacity : ℕ) (asked : List AnyStage) (status : Status) (text : List ℕ)
-    → HaveRoom q capacity asked → IsStagedEnd q capacity asked status text → IsOneOf settled status
+    → HaveRoom q capacity asked → IsStagedEnd q capacity asked status text → IsOneOf concluded status
 settled_stages one q capacity asked status text room end =
     of_answers end.answer end.told end.staging.answers
   where
@@ -155,7 +155,7 @@ settled_stages one q capacity asked status text room end =
         (subst (All (λ stage. HasRoom (query_in q stage) capacity)) end.staging.run.all (room end.stages end.are_asked))
 
     of_answers : (answer : StagedAnswer) → TellsAnswer q capacity end.costs answer status text
-        → Answers q capacity before last end.costs answer → IsOneOf settled status
+        → Answers q capacity before last end.costs answer → IsOneOf concluded status
     of_answers answer told (full more are is) = absurd (room_or_more one (query_in q last) capacity has_room more)
     of_answers answer told (enough some plan its is) =
         inl (subst (λ a. TellsAnswer q capacity end.costs a status text) is told).0

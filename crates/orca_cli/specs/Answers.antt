@@ -8,7 +8,7 @@ use Rattle.goal_children.specs.Listed.{AreGoalsOf}
 use Rattle.plan_space.specs.Nodes.{Tree}
 use Rattle.plan_space.specs.Least.{IsLeastPlan, QueryHasNoPlan}
 use Rattle.plan_lines.specs.Text.{plan_section}
-use Rattle.command_line.specs.declared.choices.Choices.{Choices}
+use Rattle.command_line.specs.declared.settings.Settings.{Settings}
 use Rattle.orca_cli.specs.Asked.{Asks}
 use Rattle.orca_cli.specs.Prepared.{IsQueryRefused}
 use Rattle.orca_cli.specs.Sections.{Tells}
@@ -23,14 +23,14 @@ abbrev pub Note : Type 0
 Note = Option (ℕ × ℕ × ℕ)
 
 -- the capacity and the workers that the command chooses, and so many goals
-abbrev pub noted : Choices → ℕ → Note
-noted choices finished = Some (choices.capacity, choices.workers, finished)
+abbrev pub noted : Settings → ℕ → Note
+noted settings finished = Some (settings.capacity, settings.workers, finished)
 
 -- the note says how many goals the query has
-pub record NotesGoals (choices : Choices) (query : Query) (note : Note) : Type 0 where
+pub record NotesGoals (settings : Settings) (query : Query) (note : Note) : Type 0 where
   pub goals : List ℕ
   pub all_goals : AreGoalsOf query goals
-  pub is : note ≡ noted choices (length goals)
+  pub is : note ≡ noted settings (length goals)
 
 -- ---- searches
 
@@ -51,23 +51,23 @@ pub record HasRoom (query : Query) (capacity : ℕ) : Type 0 where
   pub fits : FitsIn query capacity members goals
 
 -- what the search of a query ends with, and its note; Tells says which text is printed for a plan's
-pub data IsSearchEnd (Tells : List ℕ → List ℕ → Type 0) (choices : Choices) (query : Query) (note : Note)
+pub data IsSearchEnd (Tells : List ℕ → List ℕ → Type 0) (settings : Settings) (query : Query) (note : Note)
     (status : Status) (text : List ℕ) : Type 0 where
-  planned : status ≡ Planned → HasRoom query choices.capacity → (plan : List ℕ) → IsPlanText query plan
-      → Tells plan text → NotesGoals choices query note → IsSearchEnd Tells choices query note status text
-  unplanned : status ≡ NoPlan → HasRoom query choices.capacity → IsImpossible query → Tells texts.no_plan text
-      → NotesGoals choices query note → IsSearchEnd Tells choices query note status text
-  too_many : status ≡ TooManyEntries → HasMoreEntries query choices.capacity
-      → text ≡ texts.too_many_entries choices.capacity → (finished : ℕ) → note ≡ noted choices finished
-      → IsSearchEnd Tells choices query note status text
+  planned : status ≡ Planned → HasRoom query settings.capacity → (plan : List ℕ) → IsPlanText query plan
+      → Tells plan text → NotesGoals settings query note → IsSearchEnd Tells settings query note status text
+  unplanned : status ≡ NoPlan → HasRoom query settings.capacity → IsImpossible query → Tells texts.no_plan text
+      → NotesGoals settings query note → IsSearchEnd Tells settings query note status text
+  too_many : status ≡ TooManyEntries → HasMoreEntries query settings.capacity
+      → text ≡ texts.too_many_entries settings.capacity → (finished : ℕ) → note ≡ noted settings finished
+      → IsSearchEnd Tells settings query note status text
 
 -- ---- answers
 
 -- the answer to a text over a catalogue: the search of the query for which it asks, or its refusal
-pub data IsAnswer (catalog : Catalog) (choices : Choices) (asked : List ℕ) (note : Note) (status : Status)
+pub data IsAnswer (catalog : Catalog) (settings : Settings) (asked : List ℕ) (note : Note) (status : Status)
     (text : List ℕ) : Type 0 where
-  searched : (query : Query) → Asks catalog choices.options asked query
-      → IsSearchEnd (Tells None choices query) choices query note status text
-      → IsAnswer catalog choices asked note status text
-  turned_down : IsQueryRefused catalog choices.options asked status text
-      → IsAnswer catalog choices asked note status text
+  searched : (query : Query) → Asks catalog settings.options asked query
+      → IsSearchEnd (Tells None settings query) settings query note status text
+      → IsAnswer catalog settings asked note status text
+  turned_down : IsQueryRefused catalog settings.options asked status text
+      → IsAnswer catalog settings asked note status text

@@ -22,7 +22,7 @@ use Rattle.orca_cli.specs.Generated.{IsGenerated}
 use Rattle.orca_cli.specs.Lists.{list_cause}
 use Rattle.orca_cli.specs.Prepared.{Reads}
 use Rattle.orca_cli.specs.Run.{IsRun, Puts, Ends}
-use Rattle.orca_cli.specs.Status.{IsOneOf, settled, overflowed, turned_down, finished, served, list_refused}
+use Rattle.orca_cli.specs.Status.{IsOneOf, concluded, overflowed, turned_down, finished, served, list_refused}
 use Rattle.orca_cli.specs.Status.{plan_turned_down}
 use Rattle.orca_cli.specs.declared.status.Status.{Status}
 use Rattle.orca_cli.specs.declared.status.Status.TheVariants.{Usage, ReadFault, WriteFault, PlanRefused, BatchRefused}
@@ -114,8 +114,8 @@ pub record HasNoFault (task : AnyTask) (shelf : Reads) (sink : Puts) : Type 0 wh
 abbrev pub Completes : Option AnyCommand → Reads → Puts → Status → Type 0
 Completes named shelf sink status =
     (command : AnyCommand) (query : Query) → named ≡ Some command
-    → SurelyAsks command.task command.choices.options shelf.held query → HasRoom query command.choices.capacity
-    → HasNoFault command.task shelf sink → IsOneOf settled status
+    → SurelyAsks command.task command.settings.options shelf.held query → HasRoom query command.settings.capacity
+    → HasNoFault command.task shelf sink → IsOneOf concluded status
 
 -- the query has room in each of these stages
 abbrev pub HaveRoom : Query → (capacity : ℕ) → List AnyStage → Type 0
@@ -132,50 +132,50 @@ pub record HasCauses (named : Option AnyCommand) (shelf : Reads) (sink : Puts) (
   pub write_fault : status ≡ WriteFault → Rose sink.before sink.after
   -- a query with more entries than the capacity is told so, where there is no fault
   pub overflows : (command : AnyCommand) (query : Query) → named ≡ Some command
-      → SurelyAsks command.task command.choices.options shelf.held query
-      → HasMoreEntries query command.choices.capacity → HasNoFault command.task shelf sink
+      → SurelyAsks command.task command.settings.options shelf.held query
+      → HasMoreEntries query command.settings.capacity → HasNoFault command.task shelf sink
       → IsOneOf overflowed status
   -- a text with a cause of refusal is refused
   pub refuses : (command : AnyCommand) (files : FileNames) → named ≡ Some command
       → query_files command.task ≡ Some files
-      → HoldsRefused files command.choices.options shelf.held → HasNoFault command.task shelf sink
+      → HoldsRefused files command.settings.options shelf.held → HasNoFault command.task shelf sink
       → IsOneOf turned_down status
   -- what is generated is never refused
   pub finishes : (command : AnyCommand) (input : GenInput) → named ≡ Some command → command.task ≡ gen input
       → HasNoFault command.task shelf sink → IsOneOf finished status
   -- a query that is planned in stages has an answer, or there is no room for it in a stage
   pub stages_finish : (command : AnyCommand) (query : Query) (asked : StageNames) → named ≡ Some command
-      → command.task ≡ stages asked → HoldsQuery asked.files command.choices.options shelf.held query
+      → command.task ≡ stages asked → HoldsQuery asked.files command.settings.options shelf.held query
       → HasNoFault command.task shelf sink → IsOneOf finished status
   -- where each stage has room it has an answer
   pub stages_settle : (command : AnyCommand) (query : Query) (asked : StageNames) → named ≡ Some command
-      → command.task ≡ stages asked → HoldsQuery asked.files command.choices.options shelf.held query
-      → HaveRoom query command.choices.capacity asked.stages → HasNoFault command.task shelf sink
-      → IsOneOf settled status
+      → command.task ≡ stages asked → HoldsQuery asked.files command.settings.options shelf.held query
+      → HaveRoom query command.settings.capacity asked.stages → HasNoFault command.task shelf sink
+      → IsOneOf concluded status
   -- a text is refused as no plan only by a check
   pub plan_refused : status ≡ PlanRefused → (command : AnyCommand) × (named_files : PlanNames)
       × (named ≡ Some command) × (command.task ≡ check named_files)
   -- the text of a valid plan is told to be one
   pub accepts_plan : (command : AnyCommand) (named_files : PlanNames) (query : Query) (text : List ℕ) (cost : ℕ)
       → named ≡ Some command → command.task ≡ check named_files
-      → HoldsPlan named_files command.choices.options shelf.held query text → IsGoodText query text cost
+      → HoldsPlan named_files command.settings.options shelf.held query text → IsGoodText query text cost
       → HasNoFault command.task shelf sink → IsOneOf served status
   -- a text with a fault is refused
   pub refuses_plan : (command : AnyCommand) (named_files : PlanNames) (query : Query) (text : List ℕ)
       (fault : TextFault)
       → named ≡ Some command → command.task ≡ check named_files
-      → HoldsPlan named_files command.choices.options shelf.held query text → fault ≢ faults.Memory
+      → HoldsPlan named_files command.settings.options shelf.held query text → fault ≢ faults.Memory
       → HasFault query text fault → HasNoFault command.task shelf sink → IsOneOf plan_turned_down status
   -- a list is refused only by a batch
   pub batch_refused : status ≡ BatchRefused → (command : AnyCommand) × (files : ListNames) × (named ≡ Some command)
       × (command.task ≡ batch files)
   -- a list that isn't refused has a status for each line
   pub lists : (command : AnyCommand) (files : ListNames) → named ≡ Some command → command.task ≡ batch files
-      → HoldsList files command.choices.capacity shelf.held None → HasNoFault command.task shelf sink
+      → HoldsList files command.settings.capacity shelf.held None → HasNoFault command.task shelf sink
       → IsOneOf served status
   -- a list with a cause of refusal is refused
   pub refuses_list : (command : AnyCommand) (files : ListNames) (cause : List ℕ) → named ≡ Some command
-      → command.task ≡ batch files → HoldsList files command.choices.capacity shelf.held (Some cause)
+      → command.task ≡ batch files → HoldsList files command.settings.capacity shelf.held (Some cause)
       → HasNoFault command.task shelf sink → IsOneOf list_refused status
 
 -- all of it follows from the one record of how the run ends

@@ -18,7 +18,7 @@ use Rattle.orca_cli.specs.Dumps.{DumpAsks}
 use Rattle.orca_cli.specs.Prepared.{Reads}
 use Rattle.orca_cli.specs.Replays.{IsNoDump}
 use Rattle.orca_cli.specs.Run.{IsRun, Puts, Ends}
-use Rattle.orca_cli.specs.Status.{IsOneOf, settled, overflowed, turned_down, served, undumped}
+use Rattle.orca_cli.specs.Status.{IsOneOf, concluded, overflowed, turned_down, served, undumped}
 use Rattle.orca_cli.specs.declared.status.Status.{Status}
 use Rattle.orca_cli.specs.declared.status.Status.TheVariants.{DumpRefused}
 
@@ -63,18 +63,18 @@ pub record HasDumpCauses (named : Option AnyCommand) (shelf : Reads) (sink : Put
   pub refused : status ≡ DumpRefused → (command : AnyCommand) × (named ≡ Some command) × IsOfDumps command.task
   -- a query is dumped, or the text of its catalogue is too long
   pub dumps : (command : AnyCommand) (files : FileNames) (select : Select) (catalog : Catalog) → named ≡ Some command
-      → command.task ≡ dump files → HoldsSelect files command.choices.options shelf.held select catalog
+      → command.task ≡ dump files → HoldsSelect files command.settings.options shelf.held select catalog
       → length (dumped_catalog select catalog) ≤ most_catalog_bytes → HasNoFault command.task shelf sink
       → IsOneOf served status
   pub refuses_long : (command : AnyCommand) (files : FileNames) (select : Select) (catalog : Catalog)
       → named ≡ Some command → command.task ≡ dump files
-      → HoldsSelect files command.choices.options shelf.held select catalog
+      → HoldsSelect files command.settings.options shelf.held select catalog
       → most_catalog_bytes < length (dumped_catalog select catalog) → HasNoFault command.task shelf sink
       → IsOneOf undumped status
   -- the query of a dump is answered where it has room, and one with more entries than the dump's capacity is told so
   pub replays : (command : AnyCommand) (file : List ℕ) (of_file : Dump) (query : Query) → named ≡ Some command
       → command.task ≡ replay file → HoldsDump file shelf.held of_file → DumpAsks of_file query
-      → HasRoom query of_file.options.capacity → HasNoFault command.task shelf sink → IsOneOf settled status
+      → HasRoom query of_file.options.capacity → HasNoFault command.task shelf sink → IsOneOf concluded status
   pub overflows : (command : AnyCommand) (file : List ℕ) (of_file : Dump) (query : Query) → named ≡ Some command
       → command.task ≡ replay file → HoldsDump file shelf.held of_file → DumpAsks of_file query
       → HasMoreEntries query of_file.options.capacity → HasNoFault command.task shelf sink

@@ -10,7 +10,7 @@ use Rattle.dump_replay.specs.Named.{dumped_catalog}
 use Rattle.dump_replay.specs.declared.dump.Dump.{Dump}
 use Rattle.dump_replay.specs.declared.dump.DumpOptions.{DumpOptions}
 use Rattle.command_line.specs.Command.{FileNames}
-use Rattle.command_line.specs.declared.choices.Choices.{Choices}
+use Rattle.command_line.specs.declared.settings.Settings.{Settings}
 use Rattle.orca_cli.specs.Asked.{SaysCatalog, Asks}
 use Rattle.orca_cli.specs.Answers.{Note, IsSearchEnd}
 use Rattle.orca_cli.specs.Prepared.{AreTold, Offers}
@@ -22,17 +22,17 @@ use Rattle.orca_cli.specs.declared.status.Status.TheVariants.{Planned, DumpRefus
 -- ---- what is chosen
 
 -- what a command chooses for its dump: all but the workers
-abbrev pub dump_options : Choices → DumpOptions
-dump_options choices = record {
-  capacity = choices.capacity;
-  options = choices.options;
-  memo = choices.memo;
-  trace = choices.trace;
+abbrev pub dump_options : Settings → DumpOptions
+dump_options settings = record {
+  capacity = settings.capacity;
+  options = settings.options;
+  memo = settings.memo;
+  trace = settings.trace;
 }
 
 -- what is chosen for a replay: what the dump says, and so many workers, without lines by worker
-abbrev pub replay_choices : DumpOptions → (workers : ℕ) → Choices
-replay_choices options workers = record {
+abbrev pub replay_settings : DumpOptions → (workers : ℕ) → Settings
+replay_settings options workers = record {
   workers = workers;
   capacity = options.capacity;
   options = options.options;
@@ -52,7 +52,7 @@ pub data IsDumpEnd (select : Select) (catalog : Catalog) (query : List ℕ) (opt
       → text ≡ texts.dump_refused (codes "too long") → IsDumpEnd select catalog query options status text
 
 -- the status and the text of a dump over two files, whose query isn't refused
-pub record FilesDump (files : FileNames) (choices : Choices) (held : List ℕ → Option (List ℕ)) (status : Status)
+pub record FilesDump (files : FileNames) (settings : Settings) (held : List ℕ → Option (List ℕ)) (status : Status)
     (text : List ℕ) : Type 0 where
   pub catalog : Catalog
   pub offers : Offers (held files.catalog) catalog
@@ -61,8 +61,8 @@ pub record FilesDump (files : FileNames) (choices : Choices) (held : List ℕ �
   pub select : Select
   pub reading : IsReading asked select
   pub query : Query
-  pub asks : Asks catalog choices.options asked query
-  pub ends : IsDumpEnd select catalog asked (dump_options choices) status text
+  pub asks : Asks catalog settings.options asked query
+  pub ends : IsDumpEnd select catalog asked (dump_options settings) status text
 
 -- ---- replays
 
@@ -85,5 +85,6 @@ pub record FileReplay (file : List ℕ) (workers : ℕ) (held : List ℕ → Opt
   pub offers : OffersDump (held file) dump
   pub query : Query
   pub asks : DumpAsks dump query
-  pub ends : IsSearchEnd (Tells None (replay_choices dump.options workers) query) (replay_choices dump.options workers)
+  pub ends : IsSearchEnd (Tells None (replay_settings dump.options workers) query)
+      (replay_settings dump.options workers)
       query note status text

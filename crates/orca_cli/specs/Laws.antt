@@ -6,7 +6,7 @@ use Rattle.query_core.specs.declared.query.Query.{Query}
 use Rattle.query_stage.specs.declared.stage.Stage.{Stage}
 use Rattle.stage_plan.specs.Stages.{query_in}
 use Rattle.command_line.specs.Command.{FileNames, StageNames, PlanNames, ListNames, plan, gen, stages, check, batch}
-use Rattle.command_line.specs.declared.choices.Choices.{Choices}
+use Rattle.command_line.specs.declared.settings.Settings.{Settings}
 use Rattle.command_line.specs.declared.command.GenInput.{GenInput}
 use Rattle.orca_cli.specs.Answers.{Note}
 use Rattle.orca_cli.specs.Asked.{SaysCatalog, Asks}
@@ -19,7 +19,7 @@ use Rattle.orca_cli.specs.declared.status.Status.{Status}
 use Rattle.orca_cli.specs.declared.status.Status.TheVariants.{ReadFault}
 
 -- a run over files that hold these bytes ends so, whatever its counts of faults are
-pub record Outcome (files : FileNames) (choices : Choices) (held : List ℕ → Option (List ℕ)) (catalog query : List ℕ)
+pub record Outcome (files : FileNames) (settings : Settings) (held : List ℕ → Option (List ℕ)) (catalog query : List ℕ)
     (status : Status) (text : List ℕ) : Type 0 where
   pub before : List ℕ → ℕ
   pub after : List ℕ → ℕ
@@ -27,19 +27,20 @@ pub record Outcome (files : FileNames) (choices : Choices) (held : List ℕ → 
   pub note : Note
   pub catalog_told : held files.catalog ≡ Some catalog
   pub query_told : held files.query ≡ Some query
-  pub ends : IsRun (Some (record { task = plan files; choices = choices })) (reads held before after) empty note status
+  pub ends : IsRun (Some (record { task = plan files; settings = settings })) (reads held before after) empty note
+      status
       text
   pub decided : IsOneOf by_files status
 
 -- a run over what is generated ends so
-pub record GenOutcome (input : GenInput) (choices : Choices) (status : Status) (text : List ℕ) : Type 0 where
+pub record GenOutcome (input : GenInput) (settings : Settings) (status : Status) (text : List ℕ) : Type 0 where
   pub shelf : Reads
   pub empty : Note
   pub note : Note
-  pub ends : IsRun (Some (record { task = gen input; choices = choices })) shelf empty note status text
+  pub ends : IsRun (Some (record { task = gen input; settings = settings })) shelf empty note status text
 
 -- a run in stages over files that hold these bytes ends so, whatever its counts of faults are
-pub record StagesOutcome (named : StageNames) (choices : Choices) (held : List ℕ → Option (List ℕ))
+pub record StagesOutcome (named : StageNames) (settings : Settings) (held : List ℕ → Option (List ℕ))
     (catalog query : List ℕ) (status : Status) (text : List ℕ) : Type 0 where
   pub before : List ℕ → ℕ
   pub after : List ℕ → ℕ
@@ -47,12 +48,12 @@ pub record StagesOutcome (named : StageNames) (choices : Choices) (held : List �
   pub note : Note
   pub catalog_told : held named.files.catalog ≡ Some catalog
   pub query_told : held named.files.query ≡ Some query
-  pub ends : IsRun (Some (record { task = stages named; choices = choices })) (reads held before after) empty note
+  pub ends : IsRun (Some (record { task = stages named; settings = settings })) (reads held before after) empty note
       status text
   pub were_read : status ≢ ReadFault
 
 -- a batch over files that hold these bytes ends so, whatever its counts of faults are
-pub record BatchOutcome (files : ListNames) (choices : Choices) (held : List ℕ → Option (List ℕ))
+pub record BatchOutcome (files : ListNames) (settings : Settings) (held : List ℕ → Option (List ℕ))
     (catalog list : List ℕ) (status : Status) (text : List ℕ) : Type 0 where
   pub before : List ℕ → ℕ
   pub after : List ℕ → ℕ
@@ -60,12 +61,13 @@ pub record BatchOutcome (files : ListNames) (choices : Choices) (held : List ℕ
   pub note : Note
   pub catalog_told : held files.catalog ≡ Some catalog
   pub list_told : held files.list ≡ Some list
-  pub ends : IsRun (Some (record { task = batch files; choices = choices })) (reads held before after) empty note status
+  pub ends : IsRun (Some (record { task = batch files; settings = settings })) (reads held before after) empty note
+      status
       text
   pub were_read : status ≢ ReadFault
 
 -- a check over files that hold these bytes ends so, whatever its counts of faults are
-pub record CheckOutcome (named : PlanNames) (choices : Choices) (held : List ℕ → Option (List ℕ))
+pub record CheckOutcome (named : PlanNames) (settings : Settings) (held : List ℕ → Option (List ℕ))
     (catalog query plan : List ℕ) (status : Status) (text : List ℕ) : Type 0 where
   pub before : List ℕ → ℕ
   pub after : List ℕ → ℕ
@@ -74,13 +76,14 @@ pub record CheckOutcome (named : PlanNames) (choices : Choices) (held : List ℕ
   pub catalog_told : held named.files.catalog ≡ Some catalog
   pub query_told : held named.files.query ≡ Some query
   pub plan_told : held named.plan ≡ Some plan
-  pub ends : IsRun (Some (record { task = check named; choices = choices })) (reads held before after) empty note status
+  pub ends : IsRun (Some (record { task = check named; settings = settings })) (reads held before after) empty note
+      status
       text
   pub were_read : status ≢ ReadFault
 
--- the same choices, with so many workers
-abbrev pub by : ℕ → Choices → Choices
-by workers choices = record choices { workers = workers }
+-- the same settings, with so many workers
+abbrev pub by : ℕ → Settings → Settings
+by workers settings = record settings { workers = workers }
 
 -- the lines by worker: none where they aren't asked for; and else none, or those of one query, each with a number
 -- below that of the workers
@@ -90,40 +93,40 @@ AreLines true workers more lines others =
     ((lines ≡ []) × (others ≡ [])) ⊎ ((query : Query) × IsByWorker query workers lines × IsByWorker query more others)
 
 -- two texts that are one up to the lines by worker
-pub record SameTexts (choices : Choices) (workers more : ℕ) (text other : List ℕ) : Type 0 where
+pub record SameTexts (settings : Settings) (workers more : ℕ) (text other : List ℕ) : Type 0 where
   pub front : List ℕ
   pub lines : List ℕ
   pub others : List ℕ
   pub whole : text ≡ front ++ lines
   pub other_whole : other ≡ front ++ others
-  pub are_lines : AreLines choices.by_worker workers more lines others
+  pub are_lines : AreLines settings.by_worker workers more lines others
 
 -- two such runs have one status, and one text up to the lines by worker
-pub record Same (choices : Choices) (workers more : ℕ) (first second : Status) (text other : List ℕ) : Type 0 where
+pub record Same (settings : Settings) (workers more : ℕ) (first second : Status) (text other : List ℕ) : Type 0 where
   pub status : first ≡ second
-  pub texts : SameTexts choices workers more text other
+  pub texts : SameTexts settings workers more text other
 
 -- the status and the text are a function of the bytes, and of what the command chooses but for the workers; only the
 -- numbers in the lines by worker may differ
 abbrev pub OneOutcome : Type 0
-OneOutcome = (files others : FileNames) (choices : Choices) (workers more : ℕ) (held told : List ℕ → Option (List ℕ))
+OneOutcome = (files others : FileNames) (settings : Settings) (workers more : ℕ) (held told : List ℕ → Option (List ℕ))
     (catalog query : List ℕ) (first second : Status) (text other : List ℕ)
-    → Outcome files (by workers choices) held catalog query first text
-    → Outcome others (by more choices) told catalog query second other
-    → Same choices workers more first second text other
+    → Outcome files (by workers settings) held catalog query first text
+    → Outcome others (by more settings) told catalog query second other
+    → Same settings workers more first second text other
 
 -- those of `gen` are a function of the input, and of what the command chooses but for the workers
 abbrev pub OneGenerated : Type 0
-OneGenerated = (input : GenInput) (choices : Choices) (workers more : ℕ) (first second : Status) (text other : List ℕ)
-    → GenOutcome input (by workers choices) first text → GenOutcome input (by more choices) second other
+OneGenerated = (input : GenInput) (settings : Settings) (workers more : ℕ) (first second : Status) (text other : List ℕ)
+    → GenOutcome input (by workers settings) first text → GenOutcome input (by more settings) second other
     → (first ≡ second) × (text ≡ other)
 
 -- those of stages are a function of the bytes, the stages, and of what the command chooses but for the workers
 abbrev pub OneStages : Type 0
-OneStages = (named others : StageNames) (choices : Choices) (workers more : ℕ) (held told : List ℕ → Option (List ℕ))
+OneStages = (named others : StageNames) (settings : Settings) (workers more : ℕ) (held told : List ℕ → Option (List ℕ))
     (catalog query : List ℕ) (first second : Status) (text other : List ℕ) → others.stages ≡ named.stages
-    → StagesOutcome named (by workers choices) held catalog query first text
-    → StagesOutcome others (by more choices) told catalog query second other → (first ≡ second) × (text ≡ other)
+    → StagesOutcome named (by workers settings) held catalog query first text
+    → StagesOutcome others (by more settings) told catalog query second other → (first ≡ second) × (text ≡ other)
 
 -- with the rules of a stage off a text asks for the query in that stage, so it is bound once for all stages
 abbrev pub BindsOnce : Type 0
@@ -132,23 +135,23 @@ BindsOnce = (catalog : Catalog) (options : Options) (text : List ℕ) (query : Q
 
 -- those of a batch are a function of the bytes, and of what the command chooses but for the workers
 abbrev pub OneBatch : Type 0
-OneBatch = (files others : ListNames) (choices : Choices) (workers more : ℕ) (held told : List ℕ → Option (List ℕ))
+OneBatch = (files others : ListNames) (settings : Settings) (workers more : ℕ) (held told : List ℕ → Option (List ℕ))
     (catalog list : List ℕ) (first second : Status) (text other : List ℕ)
-    → BatchOutcome files (by workers choices) held catalog list first text
-    → BatchOutcome others (by more choices) told catalog list second other → (first ≡ second) × (text ≡ other)
+    → BatchOutcome files (by workers settings) held catalog list first text
+    → BatchOutcome others (by more settings) told catalog list second other → (first ≡ second) × (text ≡ other)
 
 -- those of a check are a function of the bytes, and of what the command chooses
 abbrev pub OneCheck : Type 0
-OneCheck = (named others : PlanNames) (choices : Choices) (held told : List ℕ → Option (List ℕ))
+OneCheck = (named others : PlanNames) (settings : Settings) (held told : List ℕ → Option (List ℕ))
     (catalog query plan : List ℕ) (first second : Status) (text other : List ℕ)
-    → CheckOutcome named choices held catalog query plan first text
-    → CheckOutcome others choices told catalog query plan second other → (first ≡ second) × (text ≡ other)
+    → CheckOutcome named settings held catalog query plan first text
+    → CheckOutcome others settings told catalog query plan second other → (first ≡ second) × (text ≡ other)
 
 -- a line of a batch ends with the status and the text of a plan over the same catalogue and this line, by however many
 -- workers
 abbrev pub LinesAsPlanned : Type 0
-LinesAsPlanned = (files : FileNames) (choices : Choices) (workers : ℕ) (held : List ℕ → Option (List ℕ))
+LinesAsPlanned = (files : FileNames) (settings : Settings) (workers : ℕ) (held : List ℕ → Option (List ℕ))
     (bytes line : List ℕ) (catalog : Catalog) (end : LineEnd) (status : Status) (text : List ℕ)
-    → SaysCatalog bytes catalog → IsLineEnd catalog choices line end
-    → Outcome files (by workers (for_a_line choices)) held bytes line status text
+    → SaysCatalog bytes catalog → IsLineEnd catalog settings line end
+    → Outcome files (by workers (for_a_line settings)) held bytes line status text
     → (end.status ≡ status) × (end.text ≡ text)

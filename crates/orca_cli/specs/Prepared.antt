@@ -10,7 +10,7 @@ use Rattle.dump_replay.specs.Dumps.{IsReadAs}
 use Rattle.dump_replay.specs.declared.dump.Dump.{Dump}
 use Rattle.command_line.specs.Command.{FileNames, PlanNames, AnyTask, AnyCommand}
 use Rattle.command_line.specs.Command.{plan, gen, stages, check, dump, replay, batch}
-use Rattle.command_line.specs.declared.choices.Choices.{Choices}
+use Rattle.command_line.specs.declared.settings.Settings.{Settings}
 use Rattle.command_line.specs.declared.command.GenInput.{GenInput}
 use Rattle.orca_cli.specs.Asked.{SaysCatalog, IsNoCatalog, Asks, IsRefused}
 use Rattle.orca_cli.specs.Generated.{IsGenerated}
@@ -77,19 +77,19 @@ generated_in (replay file) = None
 generated_in (batch files) = None
 
 -- the task is done by one worker, where no crew may be: stages never are
-abbrev pub IsForOne : AnyTask → Choices → Type 0
-IsForOne (plan files) choices = choices.workers ≡ 1
-IsForOne (gen input) choices = choices.workers ≡ 1
-IsForOne (stages named) choices = ⊥
-IsForOne (check named) choices = choices.workers ≡ 1
-IsForOne (dump files) choices = choices.workers ≡ 1
-IsForOne (replay file) choices = choices.workers ≡ 1
-IsForOne (batch files) choices = choices.workers ≡ 1
+abbrev pub IsForOne : AnyTask → Settings → Type 0
+IsForOne (plan files) settings = settings.workers ≡ 1
+IsForOne (gen input) settings = settings.workers ≡ 1
+IsForOne (stages named) settings = ⊥
+IsForOne (check named) settings = settings.workers ≡ 1
+IsForOne (dump files) settings = settings.workers ≡ 1
+IsForOne (replay file) settings = settings.workers ≡ 1
+IsForOne (batch files) settings = settings.workers ≡ 1
 
 -- the words are a command that one worker does
 abbrev pub AsksForOne : Option AnyCommand → Type 0
 AsksForOne None = ⊥
-AsksForOne (Some command) = IsForOne command.task command.choices
+AsksForOne (Some command) = IsForOne command.task command.settings
 
 -- ---- how a run ends that searches nothing
 
@@ -164,17 +164,17 @@ pub data CheckStops (named : PlanNames) (options : Options) (shelf : Reads) (sta
         → FileStops IsPlanTooLong named.plan shelf status text → CheckStops named options shelf status text
 
 -- a task that searches nothing, by what is chosen for it; what is generated is always searched
-abbrev pub TaskStops : AnyTask → Choices → Reads → Status → List ℕ → Type 0
-TaskStops (plan files) choices shelf status text = QueryStops files choices.options shelf status text
-TaskStops (gen input) choices shelf status text = ⊥
-TaskStops (stages named) choices shelf status text = QueryStops named.files choices.options shelf status text
-TaskStops (check named) choices shelf status text = CheckStops named choices.options shelf status text
-TaskStops (dump files) choices shelf status text = QueryStops files choices.options shelf status text
-TaskStops (replay file) choices shelf status text = FileStops IsReplayRefused file shelf status text
-TaskStops (batch files) choices shelf status text =
-    FilesStop (λ catalog. IsListRefused choices.capacity) files.catalog files.list shelf status text
+abbrev pub TaskStops : AnyTask → Settings → Reads → Status → List ℕ → Type 0
+TaskStops (plan files) settings shelf status text = QueryStops files settings.options shelf status text
+TaskStops (gen input) settings shelf status text = ⊥
+TaskStops (stages named) settings shelf status text = QueryStops named.files settings.options shelf status text
+TaskStops (check named) settings shelf status text = CheckStops named settings.options shelf status text
+TaskStops (dump files) settings shelf status text = QueryStops files settings.options shelf status text
+TaskStops (replay file) settings shelf status text = FileStops IsReplayRefused file shelf status text
+TaskStops (batch files) settings shelf status text =
+    FilesStop (λ catalog. IsListRefused settings.capacity) files.catalog files.list shelf status text
 
 -- a run by the command that its words are, where they are one
 abbrev pub Stops : Option AnyCommand → Reads → Status → List ℕ → Type 0
 Stops None shelf status text = IsUsage status text
-Stops (Some command) shelf status text = TaskStops command.task command.choices shelf status text
+Stops (Some command) shelf status text = TaskStops command.task command.settings shelf status text

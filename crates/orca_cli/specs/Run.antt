@@ -5,7 +5,7 @@ use Rattle.orca_base.specs.Causes.{Rose}
 use Rattle.orca_io.specs.Sink.{TakesPrefix}
 use Rattle.query_core.specs.declared.query.Query.{Query}
 use Rattle.command_line.specs.Command.{AnyTask, AnyCommand, plan, gen, stages, check, dump, replay, batch}
-use Rattle.command_line.specs.declared.choices.Choices.{Choices}
+use Rattle.command_line.specs.declared.settings.Settings.{Settings}
 use Rattle.orca_cli.specs.Batches.{FilesBatch}
 use Rattle.orca_cli.specs.Checked.{FilesChecked}
 use Rattle.orca_cli.specs.Dumps.{FilesDump, FileReplay}
@@ -18,29 +18,29 @@ use Rattle.orca_cli.specs.declared.status.Status.TheVariants.{WriteFault, Memory
 
 -- the end of a task that is more than the search of one query, with a text of its own: that of stages, of a check, of a
 -- dump, or of a batch
-abbrev pub IsOwnEnd : AnyTask → Choices → (List ℕ → Option (List ℕ)) → Status → List ℕ → Type 0
-IsOwnEnd (plan files) choices held status text = ⊥
-IsOwnEnd (gen input) choices held status text = ⊥
-IsOwnEnd (stages named) choices held status text = FilesStaged named choices held status text
-IsOwnEnd (check named) choices held status text = FilesChecked named choices.options held status text
-IsOwnEnd (dump files) choices held status text = FilesDump files choices held status text
-IsOwnEnd (replay file) choices held status text = ⊥
-IsOwnEnd (batch files) choices held status text = FilesBatch files choices held status text
+abbrev pub IsOwnEnd : AnyTask → Settings → (List ℕ → Option (List ℕ)) → Status → List ℕ → Type 0
+IsOwnEnd (plan files) settings held status text = ⊥
+IsOwnEnd (gen input) settings held status text = ⊥
+IsOwnEnd (stages named) settings held status text = FilesStaged named settings held status text
+IsOwnEnd (check named) settings held status text = FilesChecked named settings.options held status text
+IsOwnEnd (dump files) settings held status text = FilesDump files settings held status text
+IsOwnEnd (replay file) settings held status text = ⊥
+IsOwnEnd (batch files) settings held status text = FilesBatch files settings held status text
 
 -- the status and the text of a run of the command, with their cause, and the note, which was empty before it: the query
 -- for which the command asks was searched, or the query of the dump that it replays; or the task ended with a text of
 -- its own, or without a search, and the note stays as it was
 pub data IsEnding (command : AnyCommand) (shelf : Reads) (empty note : Note) (status : Status) (text : List ℕ) : Type 0
   where
-    answered : (query : Query) → IsAskedBy command.task command.choices.options shelf.held query
-        → IsSearchEnd (Tells (generated_in command.task) command.choices query) command.choices query note status text
+    answered : (query : Query) → IsAskedBy command.task command.settings.options shelf.held query
+        → IsSearchEnd (Tells (generated_in command.task) command.settings query) command.settings query note status text
         → IsEnding command shelf empty note status text
     from_dump : (file : List ℕ) → command.task ≡ replay file
-        → FileReplay file command.choices.workers shelf.held note status text
+        → FileReplay file command.settings.workers shelf.held note status text
         → IsEnding command shelf empty note status text
-    own_end : IsOwnEnd command.task command.choices shelf.held status text → note ≡ empty
+    own_end : IsOwnEnd command.task command.settings shelf.held status text → note ≡ empty
         → IsEnding command shelf empty note status text
-    stopped : TaskStops command.task command.choices shelf status text → note ≡ empty
+    stopped : TaskStops command.task command.settings shelf status text → note ≡ empty
         → IsEnding command shelf empty note status text
 
 -- and so by the command that the words are, where they are one

@@ -8,7 +8,7 @@ use Rattle.job_trace.specs.Memo as memos
 use Rattle.job_trace.specs.Trace as traces
 use Rattle.job_trace.specs.Trace.{IsTraceText, IsCrewText}
 use Rattle.command_line.specs.Command.{shape_word}
-use Rattle.command_line.specs.declared.choices.Choices.{Choices}
+use Rattle.command_line.specs.declared.settings.Settings.{Settings}
 use Rattle.command_line.specs.declared.command.GenInput.{GenInput}
 use Rattle.orca_cli.specs.declared.sections.Section.{Section}
 use Rattle.orca_cli.specs.declared.sections.Section.TheVariants as sections
@@ -55,37 +55,37 @@ abbrev pub all_sections : List Section
 all_sections = sections.Memo ∷ sections.Trace ∷ sections.ByWorker ∷ []
 
 -- the command asks for the section
-abbrev pub is_asked : Choices → Section → Bool
-is_asked choices sections.Memo = choices.memo
-is_asked choices sections.Trace = choices.trace
-is_asked choices sections.ByWorker = choices.by_worker
+abbrev pub is_asked : Settings → Section → Bool
+is_asked settings sections.Memo = settings.memo
+is_asked settings sections.Trace = settings.trace
+is_asked settings sections.ByWorker = settings.by_worker
 
 -- the text is the section's
-abbrev pub IsSectionText : Choices → Query → Section → List ℕ → Type 0
-IsSectionText choices query sections.Memo text = IsMemo query text
-IsSectionText choices query sections.Trace text = IsTrace query text
-IsSectionText choices query sections.ByWorker text = IsByWorker query choices.workers text
+abbrev pub IsSectionText : Settings → Query → Section → List ℕ → Type 0
+IsSectionText settings query sections.Memo text = IsMemo query text
+IsSectionText settings query sections.Trace text = IsTrace query text
+IsSectionText settings query sections.ByWorker text = IsByWorker query settings.workers text
 
 -- the section's text where it is asked for, and else nothing
-abbrev pub IsWhere : Bool → Choices → Query → Section → List ℕ → Type 0
-IsWhere false choices query section text = text ≡ []
-IsWhere true choices query section text = IsSectionText choices query section text
+abbrev pub IsWhere : Bool → Settings → Query → Section → List ℕ → Type 0
+IsWhere false settings query section text = text ≡ []
+IsWhere true settings query section text = IsSectionText settings query section text
 
 -- the text goes on behind the front with the section, where it is asked for
-pub record IsBehind (choices : Choices) (query : Query) (section : Section) (front text : List ℕ) : Type 0 where
+pub record IsBehind (settings : Settings) (query : Query) (section : Section) (front text : List ℕ) : Type 0 where
   pub added : List ℕ
-  pub is_added : IsWhere (is_asked choices section) choices query section added
+  pub is_added : IsWhere (is_asked settings section) settings query section added
   pub joined : text ≡ front ++ added
 
 -- and so with one section after the other
-abbrev pub AreBehind : Choices → Query → List Section → List ℕ → List ℕ → Type 0
-AreBehind choices query [] front text = text ≡ front
-AreBehind choices query (section ∷ more) front text = (middle : List ℕ) × IsBehind choices query section front middle
-    × AreBehind choices query more middle text
+abbrev pub AreBehind : Settings → Query → List Section → List ℕ → List ℕ → Type 0
+AreBehind settings query [] front text = text ≡ front
+AreBehind settings query (section ∷ more) front text = (middle : List ℕ) × IsBehind settings query section front middle
+    × AreBehind settings query more middle text
 
 -- the text goes on behind the front with all sections that are asked for
-abbrev pub GoesOn : Choices → Query → List ℕ → List ℕ → Type 0
-GoesOn choices query front text = AreBehind choices query all_sections front text
+abbrev pub GoesOn : Settings → Query → List ℕ → List ℕ → Type 0
+GoesOn settings query front text = AreBehind settings query all_sections front text
 
 -- ---- first lines
 
@@ -115,6 +115,6 @@ pub record HasFirstLines (input : GenInput) (query : Query) (plan text : List �
 
 -- the text that is printed where the plan has this text: first lines where the query was generated, and else the plan
 -- and the sections that are asked for
-abbrev pub Tells : Option GenInput → Choices → Query → List ℕ → List ℕ → Type 0
-Tells None choices query plan text = GoesOn choices query plan text
-Tells (Some input) choices query plan text = HasFirstLines input query plan text
+abbrev pub Tells : Option GenInput → Settings → Query → List ℕ → List ℕ → Type 0
+Tells None settings query plan text = GoesOn settings query plan text
+Tells (Some input) settings query plan text = HasFirstLines input query plan text

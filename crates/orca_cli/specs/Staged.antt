@@ -8,7 +8,7 @@ use Rattle.stage_plan.specs.StagedRuns.{StagedAnswer, planned, unplanned, too_ma
 use Rattle.command_line.specs.Command.{StageNames}
 use Rattle.command_line.specs.HeldStages.{stage_read}
 use Rattle.command_line.specs.Stages.{AnyStage}
-use Rattle.command_line.specs.declared.choices.Choices.{Choices}
+use Rattle.command_line.specs.declared.settings.Settings.{Settings}
 use Rattle.orca_cli.specs.Prepared.{FilesAsk}
 use Rattle.orca_cli.specs.Texts as texts
 use Rattle.orca_cli.specs.declared.status.Status.{Status}
@@ -56,8 +56,8 @@ pub record IsStagedEnd (query : Query) (capacity : ℕ) (asked : List AnyStage) 
     pub told : TellsAnswer query capacity costs answer status text
 
 -- those of the query for which two files ask
-pub record FilesStaged (named : StageNames) (choices : Choices) (held : List ℕ → Option (List ℕ)) (status : Status)
+pub record FilesStaged (named : StageNames) (settings : Settings) (held : List ℕ → Option (List ℕ)) (status : Status)
     (text : List ℕ) : Type 0 where
   pub query : Query
-  pub asks : FilesAsk named.files choices.options held query
-  pub end : IsStagedEnd query choices.capacity named.stages status text
+  pub asks : FilesAsk named.files settings.options held query
+  pub end : IsStagedEnd query settings.capacity named.stages status text

@@ -7,19 +7,19 @@ use Rattle.orca_cli.specs.declared.status.Status.TheVariants.{WriteFault, Memory
 use Rattle.orca_cli.specs.declared.status.Status.TheVariants.{DumpRefused, BatchRefused}
 
 -- the number with which the program ends
-abbrev pub number_of : Status → ℕ
-number_of Planned = 0
-number_of NoPlan = 1
-number_of Usage = 2
-number_of QueryRefused = 3
-number_of CatalogRefused = 4
-number_of TooManyEntries = 5
-number_of ReadFault = 6
-number_of WriteFault = 7
-number_of Memory = 8
-number_of PlanRefused = 9
-number_of DumpRefused = 10
-number_of BatchRefused = 11
+abbrev pub status_number : Status → ℕ
+status_number Planned = 0
+status_number NoPlan = 1
+status_number Usage = 2
+status_number QueryRefused = 3
+status_number CatalogRefused = 4
+status_number TooManyEntries = 5
+status_number ReadFault = 6
+status_number WriteFault = 7
+status_number Memory = 8
+status_number PlanRefused = 9
+status_number DumpRefused = 10
+status_number BatchRefused = 11
 
 -- the status is one of these
 abbrev pub IsOneOf : List Status → Status → Type 0
@@ -37,8 +37,8 @@ abbrev pub by_files : List Status
 by_files = Planned ∷ NoPlan ∷ QueryRefused ∷ CatalogRefused ∷ TooManyEntries ∷ []
 
 -- the query has its answer, or memory ran out
-abbrev pub settled : List Status
-settled = Planned ∷ NoPlan ∷ Memory ∷ []
+abbrev pub concluded : List Status
+concluded = Planned ∷ NoPlan ∷ Memory ∷ []
 
 -- there was no room, or memory ran out
 abbrev pub overflowed : List Status

@@ -151,13 +151,13 @@ pub record IsReplayable (replayed : Replayed) : Type 0 where
   pub allowed : AreDumpOptions replayed.options
 
 -- the work can be done
-abbrev pub IsReady : Work → Type 0
-IsReady (works.Query asked) = IsProps asked.query asked.props
-IsReady (works.Stages staged) = IsProps staged.asked.query staged.asked.props
-IsReady (works.Check checked) = IsProps checked.asked.query checked.asked.props
-IsReady (works.Dump dumped) = IsDumpable dumped
-IsReady (works.Replay replayed) = IsReplayable replayed
-IsReady (works.List listed) = IsListed listed
+abbrev pub CanBeDone : Work → Type 0
+CanBeDone (works.Query asked) = IsProps asked.query asked.props
+CanBeDone (works.Stages staged) = IsProps staged.asked.query staged.asked.props
+CanBeDone (works.Check checked) = IsProps checked.asked.query checked.asked.props
+CanBeDone (works.Dump dumped) = IsDumpable dumped
+CanBeDone (works.Replay replayed) = IsReplayable replayed
+CanBeDone (works.List listed) = IsListed listed
 
 -- one worker does the work, where no crew may be
 abbrev pub IsWorkForOne : Work → ℕ → Type 0
@@ -171,4 +171,4 @@ IsWorkForOne (works.List listed) workers = workers ≡ 1
 -- the command is the one that the words are, and it asks for the work
 pub record IsWanted (named : Option AnyCommand) (held : List ℕ → Option (List ℕ)) (wanted : Wanted) : Type 0 where
   pub named_is : named ≡ Some (command_read wanted.command)
-  pub asks_for : AsksFor (command_read wanted.command).task wanted.command.choices.options held wanted.work
+  pub asks_for : AsksFor (command_read wanted.command).task wanted.command.settings.options held wanted.work

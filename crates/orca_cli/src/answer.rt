@@ -13,7 +13,7 @@ use crate::ending::{Ending, too_many_entries};
 use crate::lines::with_first_lines;
 use crate::planning::{PlanLines, planned};
 use crate::sections::with_sections;
-use command_line::{Choices, GenInput};
+use command_line::{GenInput, Settings};
 use job_engine::Outcome;
 use plan_tree::Answers;
 use query_core::Query;
@@ -33,15 +33,15 @@ pub struct Search<'a> {
 /// The ending of a run by the outcome of its search, with the note of that search.
 pub fn ending_of(
     alloc: Global,
-    choices: Choices,
+    settings: Settings,
     generated: Option<GenInput>,
     asked: &Asked,
     outcome: &Outcome,
 ) -> Result<Ending, AllocError>
     requires props { IsProps asked.now.query asked.now.props }
-    requires ends { RunEnds asked.now.query choices.capacity choices.workers outcome.now }
-    ensures { (note : Note) → IsNoted choices.capacity choices.workers outcome.now note
-        → IfOk result (λ ending. IsSearchEnd (Tells generated choices asked.now.query) choices
+    requires ends { RunEnds asked.now.query settings.capacity settings.workers outcome.now }
+    ensures { (note : Note) → IsNoted settings.capacity settings.workers outcome.now note
+        → IfOk result (λ ending. IsSearchEnd (Tells generated settings asked.now.query) settings
         asked.now.query note ending.status (text_of ending)) }
 {
     match outcome {
@@ -58,7 +58,7 @@ pub fn ending_of(
                 goals: goals.as_slice(),
                 who: who.as_slice(),
             };
-            done(alloc, choices, generated, search, answers)
+            done(alloc, settings, generated, search, answers)
         }
         Outcome::Full { capacity } => too_many_entries(alloc, *capacity),
         Outcome::Unfinished { ready: _ } => unreachable!(),
@@ -68,38 +68,38 @@ pub fn ending_of(
 // The plan from the answers to all goals, and the sections behind it.
 fn done(
     alloc: Global,
-    choices: Choices,
+    settings: Settings,
     generated: Option<GenInput>,
     search: Search<'_>,
     answers: &Answers,
 ) -> Result<Ending, AllocError>
-    requires search { IsSearch search choices.workers }
-    requires room { HasRoom search.query.now choices.capacity }
+    requires search { IsSearch search settings.workers }
+    requires room { HasRoom search.query.now settings.capacity }
     requires answers { AreAnswers search.query.now answers.now.list }
-    ensures { (note : Note) → NotesGoals choices search.entry.query.now note
-        → IfOk result (λ ending. IsSearchEnd (Tells generated choices search.entry.query.now)
-        choices search.entry.query.now note ending.status (text_of ending)) }
+    ensures { (note : Note) → NotesGoals settings search.entry.query.now note
+        → IfOk result (λ ending. IsSearchEnd (Tells generated settings search.entry.query.now)
+        settings search.entry.query.now note ending.status (text_of ending)) }
 {
     let plan = planned(alloc, search.query, search.props, answers)?;
-    told(alloc, choices, generated, search, plan)
+    told(alloc, settings, generated, search, plan)
 }
 
 // What is printed of the plan: first lines where the query was generated, and else all of it with
 // the sections that are asked for.
 fn told(
     alloc: Global,
-    choices: Choices,
+    settings: Settings,
     generated: Option<GenInput>,
     search: Search<'_>,
     plan: PlanLines,
 ) -> Result<Ending, AllocError>
-    requires { IsSearch search choices.workers }
+    requires { IsSearch search settings.workers }
     ensures status { IfOk result (λ made. made.status ≡ plan.status) }
-    ensures text { IfOk result (λ made. Tells generated choices search.entry.query.now
+    ensures text { IfOk result (λ made. Tells generated settings search.entry.query.now
         plan.lines.items (text_of made)) }
 {
     match generated {
-        Some(input) => with_first_lines(alloc, input, choices, search, plan),
-        None => with_sections(alloc, choices, search, plan),
+        Some(input) => with_first_lines(alloc, input, settings, search, plan),
+        None => with_sections(alloc, settings, search, plan),
     }
 }

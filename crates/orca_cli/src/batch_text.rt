@@ -1,7 +1,7 @@
 //! What is printed of a batch.
 ghost use Rattle.std.specs.Prelude.{◌≡◌, ◌++◌, IfOk, OnOk, map, vec_len};
-ghost use Rattle.orca_cli.specs.Batches.{batch_line as line_of_batch, query_line as line_of_query, texts_from};
-ghost use Rattle.orca_cli.specs.Status.{number_of};
+ghost use Rattle.orca_cli.specs.Batches.{batch_line as the_batch_line, query_line as the_query_line, texts_from};
+ghost use Rattle.orca_cli.specs.Status.{status_number};
 ghost use Rattle.orca_cli.specs.Views.{bytes_of_texts, line_end, text_of};
 
 use crate::ending::Ending;
@@ -12,7 +12,7 @@ use std::alloc::{AllocError, Global};
 pub fn batch_ending(alloc: Global, endings: Vec<Ending>) -> Result<Ending, AllocError>
     ensures status { IfOk result (λ made. made.status ≡ Status.Planned) }
     ensures text { IfOk result (λ made. text_of made
-        ≡ line_of_batch (vec_len endings) ++ texts_from 0 (map line_end endings.items)) }
+        ≡ the_batch_line (vec_len endings) ++ texts_from 0 (map line_end endings.items)) }
 {
     let mut texts = Vec::new(alloc);
     texts.push(batch_line(alloc, endings.len() as u64)?)?;
@@ -41,7 +41,7 @@ fn append(texts: &mut Vec<Vec<u8>>, more: Vec<Vec<u8>>) -> Result<(), AllocError
 
 // How many queries there are.
 fn batch_line(alloc: Global, queries: u64) -> Result<Vec<u8>, AllocError>
-    ensures { IfOk result (λ line. line.items ≡ line_of_batch queries) }
+    ensures { IfOk result (λ line. line.items ≡ the_batch_line queries) }
 {
     let line = format!(in alloc; "batch queries={queries}\n")?;
     Ok(line.into_bytes())
@@ -49,7 +49,7 @@ fn batch_line(alloc: Global, queries: u64) -> Result<Vec<u8>, AllocError>
 
 // The number of a query, and its status.
 fn query_line(alloc: Global, number: u64, status: Status) -> Result<Vec<u8>, AllocError>
-    ensures { IfOk result (λ line. line.items ≡ line_of_query number status) }
+    ensures { IfOk result (λ line. line.items ≡ the_query_line number status) }
 {
     let status = status.number();
     let line = format!(in alloc; "query {number} status {status}\n")?;

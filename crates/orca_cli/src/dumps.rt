@@ -4,8 +4,9 @@ ghost use Rattle.query_core.specs.Catalog.{IsCatalog};
 ghost use Rattle.query_core.specs.Results.{AreOptions};
 ghost use Rattle.dump_replay.specs.Dumps.{AreDumpOptions, IsReadAs};
 ghost use Rattle.command_line.specs.Numbers.{IsWithin};
-ghost use Rattle.command_line.specs.Options.{AreChoices};
-ghost use Rattle.orca_cli.specs.Dumps.{DumpAsks, IsDumpEnd, dump_options as options_of, replay_choices as choices_of};
+ghost use Rattle.command_line.specs.Options.{AreSettings};
+ghost use Rattle.orca_cli.specs.Dumps.{DumpAsks, IsDumpEnd, dump_options as the_dump_options};
+ghost use Rattle.orca_cli.specs.Dumps.{replay_settings as the_replay_settings};
 ghost use Rattle.orca_cli.specs.Prepared.{AsksNothing, FileStops, IsQueryRefused, IsReplayRefused, reads};
 ghost use Rattle.orca_cli.specs.Views.{EndsWith, IsAsked, IsDumpable, IsDumpedOf, IsDumpedOver, text_of};
 ghost use Rattle.orca_cli.specs.Views.{IsReplayable, IsReplayed, IsReplayOf};
@@ -17,7 +18,7 @@ use crate::faults::dump_fault_text;
 use crate::queries::{query_of_select, query_of_text, select_of_text, text_of_file};
 use crate::reading::read_file;
 use crate::status::Status;
-use command_line::Choices;
+use command_line::Settings;
 use dump_replay::{Dump, DumpOptions, dump_text, read_dump};
 use orca_io::Shelf;
 use query_core::{Catalog, Options};
@@ -163,27 +164,27 @@ fn query_of_dump(alloc: Global, dump: &Dump) -> Result<Asked, End>
 }
 
 /// What a command chooses for its dump: all but the workers.
-pub fn dump_options(choices: Choices) -> DumpOptions
-    requires { AreChoices choices }
-    ensures options { result ≡ options_of choices }
+pub fn dump_options(settings: Settings) -> DumpOptions
+    requires { AreSettings settings }
+    ensures options { result ≡ the_dump_options settings }
     ensures allowed { AreDumpOptions result }
 {
     DumpOptions {
-        capacity: choices.capacity,
-        options: choices.options,
-        memo: choices.memo,
-        trace: choices.trace,
+        capacity: settings.capacity,
+        options: settings.options,
+        memo: settings.memo,
+        trace: settings.trace,
     }
 }
 
 /// What is chosen for a replay: what the dump says, and so many workers.
-pub fn replay_choices(options: DumpOptions, workers: u32) -> Choices
+pub fn replay_settings(options: DumpOptions, workers: u32) -> Settings
     requires options { AreDumpOptions options }
     requires workers { IsWithin 1 64 workers }
-    ensures choices { result ≡ choices_of options workers }
-    ensures allowed { AreChoices result }
+    ensures settings { result ≡ the_replay_settings options workers }
+    ensures allowed { AreSettings result }
 {
-    Choices {
+    Settings {
         workers,
         capacity: options.capacity,
         options: options.options,

@@ -1,7 +1,8 @@
 //! Why a catalogue, a query, the text of a plan or a dump is refused, as text. Want of memory has none, and stays what
 //! it is.
 ghost use Rattle.std.specs.Prelude.{◌≡◌, ◌≢◌, IfOk, string_bytes};
-ghost use Rattle.orca_cli.specs.Texts.{catalog_cause, limit_name, sql_cause, bind_cause, props_cause, plan_cause, dump_cause};
+ghost use Rattle.orca_cli.specs.Texts.{catalog_cause, limit_name, sql_cause, bind_cause, props_cause, plan_cause};
+ghost use Rattle.orca_cli.specs.Texts.{dump_cause};
 
 use catalog_json::CatalogFault;
 use dump_replay::DumpFault;

@@ -1,7 +1,8 @@
 //! What follows from how commands are read, and how runs end.
 ghost use Rattle.orca_cli.specs.Causes.{EndsHaveCauses};
 ghost use Rattle.orca_cli.specs.DumpCauses.{EndsHaveDumpCauses};
-ghost use Rattle.orca_cli.specs.Laws.{BindsOnce, LinesAsPlanned, OneBatch, OneCheck, OneGenerated, OneOutcome, OneStages};
+ghost use Rattle.orca_cli.specs.Laws.{BindsOnce, LinesAsPlanned, OneBatch, OneCheck, OneGenerated, OneOutcome};
+ghost use Rattle.orca_cli.specs.Laws.{OneStages};
 ghost use Rattle.orca_cli.specs.DumpLaws.{DumpsReplay, OneReplay, ReplaysAsPlanned};
 
 use dump_replay::{dumps_are_one, dumps_bind_alike};

@@ -1,6 +1,6 @@
 //! Lists of queries, with a query on each line.
 ghost use Rattle.std.specs.Prelude.{◌≡◌, ◌≤◌, ℕ, List, None, IfOk, IfErr, length};
-ghost use Rattle.orca_cli.specs.Lists.{IsListRefused, are_too_many, lines_of as lines_in, list_cause};
+ghost use Rattle.orca_cli.specs.Lists.{IsListRefused, are_too_many, lines_of as the_lines_of, list_cause};
 ghost use Rattle.orca_cli.specs.Prepared.{AreTold, FileStops, reads};
 ghost use Rattle.orca_cli.specs.Views.{EndsWith, lines_read};
 
@@ -44,7 +44,7 @@ pub fn list_of_file<S: Shelf>(
 /// The lines of a list, or how the run ends where there are too many for the capacity.
 pub fn queries_of(alloc: Global, list: &[u8], capacity: u32) -> Result<Vec<&[u8]>, End>
     requires { length list.now ≤ 1048576 }
-    ensures lines { IfOk result (λ lines. lines_read lines.items ≡ lines_in list.now) }
+    ensures lines { IfOk result (λ lines. lines_read lines.items ≡ the_lines_of list.now) }
     ensures usable { IfOk result (λ lines. list_cause capacity list.now ≡ None) }
     ensures stops { IfErr result (EndsWith (IsListRefused capacity list.now)) }
 {
@@ -64,7 +64,7 @@ fn too_many(lines: u64, capacity: u32) -> bool
 
 // The lines of a text. The last newline may be absent.
 fn lines_of(alloc: Global, text: &[u8]) -> Result<Vec<&[u8]>, AllocError>
-    ensures { IfOk result (λ lines. lines_read lines.items ≡ lines_in text.now) }
+    ensures { IfOk result (λ lines. lines_read lines.items ≡ the_lines_of text.now) }
 {
     let mut lines = Vec::new(alloc);
     let mut rest = text;

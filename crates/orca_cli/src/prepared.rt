@@ -2,13 +2,13 @@
 ghost use Rattle.std.specs.Prelude.{◌≡◌, ◌≤◌, ℕ, List, IfOk, IfErr, map, string_bytes};
 ghost use Rattle.query_core.specs.Results.{AreOptions};
 ghost use Rattle.command_line.specs.Reading.{command_of};
-ghost use Rattle.command_line.specs.Options.{AreChoices};
+ghost use Rattle.command_line.specs.Options.{AreSettings};
 ghost use Rattle.command_line.specs.Views.{file_names, list_names, plan_names, stage_names, task_read};
 ghost use Rattle.orca_cli.specs.Lists.{IsListRefused};
 ghost use Rattle.orca_cli.specs.Prepared.{CheckStops, FilesAsk, FilesStop, QueryStops, Stops, TaskStops, reads};
 ghost use Rattle.orca_cli.specs.Texts.{usage_line};
 ghost use Rattle.orca_cli.specs.Views.{AreChecked, AreDumped, AreListed, AreStaged, AsksFor, EndsAs, EndsWith};
-ghost use Rattle.orca_cli.specs.Views.{IsAsked, IsDumpable, IsListed, IsReady, IsWanted};
+ghost use Rattle.orca_cli.specs.Views.{IsAsked, IsDumpable, IsListed, CanBeDone, IsWanted};
 
 use crate::asked::{Asked, Checked, Dumped, InStages, Listed, Wanted, Work};
 use crate::catalogs::catalog_of_file;
@@ -19,7 +19,9 @@ use crate::generated::query_of_input;
 use crate::lists::list_of_file;
 use crate::queries::query_of_file;
 use crate::status::Status;
-use command_line::{Choices, Command, Files, ListFiles, PlanFiles, StageFiles, Task, read_command};
+use command_line::{
+    Command, Files, ListFiles, PlanFiles, Settings, StageFiles, Task, read_command,
+};
 use orca_io::Shelf;
 use query_core::Options;
 use std::alloc::{AllocError, Global};
@@ -35,14 +37,14 @@ pub fn prepared<'w, S: Shelf>(
 ) -> Result<Wanted<'w>, End>
     ensures wanted { IfOk result
         (IsWanted (command_of (map string_bytes words.now)) (S.held shelf.old)) }
-    ensures ready { IfOk result (λ wanted. IsReady wanted.work) }
+    ensures ready { IfOk result (λ wanted. CanBeDone wanted.work) }
     ensures stops { IfErr result (EndsWith (Stops (command_of (map string_bytes words.now))
         (reads (S.held shelf.old) (S.faults shelf.old) (S.faults shelf.new)))) }
 
     ensures same { (n : List ℕ) → S.held shelf.new n ≡ S.held shelf.old n }
 {
     match read_command(words) {
-        Some(command) => match work_of(alloc, shelf, command.task, command.choices) {
+        Some(command) => match work_of(alloc, shelf, command.task, command.settings) {
             Ok(work) => Ok(Wanted { command, work }),
             Err(end) => Err(end),
         },
@@ -62,32 +64,32 @@ fn work_of<S: Shelf>(
     alloc: Global,
     shelf: &mut S,
     task: Task<'_>,
-    choices: Choices,
+    settings: Settings,
 ) -> Result<Work, End>
-    requires { AreChoices choices }
+    requires { AreSettings settings }
     ensures asks { IfOk result
-        (AsksFor (task_read task.entry) choices.options (S.held shelf.old)) }
-    ensures ready { IfOk result IsReady }
-    ensures stops { IfErr result (EndsWith (TaskStops (task_read task.entry) choices
+        (AsksFor (task_read task.entry) settings.options (S.held shelf.old)) }
+    ensures ready { IfOk result CanBeDone }
+    ensures stops { IfErr result (EndsWith (TaskStops (task_read task.entry) settings
         (reads (S.held shelf.old) (S.faults shelf.old) (S.faults shelf.new)))) }
 
     ensures same { (n : List ℕ) → S.held shelf.new n ≡ S.held shelf.old n }
 {
     match task {
-        Task::Plan(files) => match asked_by_files(alloc, shelf, files, choices.options) {
+        Task::Plan(files) => match asked_by_files(alloc, shelf, files, settings.options) {
             Ok(asked) => Ok(Work::Query(asked)),
             Err(end) => Err(end),
         },
-        Task::Gen(made) => Ok(Work::Query(query_of_input(alloc, made, choices.options)?)),
-        Task::Stages(named) => match staged_by_files(alloc, shelf, named, choices.options) {
+        Task::Gen(made) => Ok(Work::Query(query_of_input(alloc, made, settings.options)?)),
+        Task::Stages(named) => match staged_by_files(alloc, shelf, named, settings.options) {
             Ok(staged) => Ok(Work::Stages(staged)),
             Err(end) => Err(end),
         },
-        Task::Check(named) => match checked_by_files(alloc, shelf, named, choices.options) {
+        Task::Check(named) => match checked_by_files(alloc, shelf, named, settings.options) {
             Ok(checked) => Ok(Work::Check(checked)),
             Err(end) => Err(end),
         },
-        Task::Dump(files) => match dumped_by_files(alloc, shelf, files, choices.options) {
+        Task::Dump(files) => match dumped_by_files(alloc, shelf, files, settings.options) {
             Ok(dumped) => Ok(Work::Dump(dumped)),
             Err(end) => Err(end),
         },
@@ -95,7 +97,7 @@ fn work_of<S: Shelf>(
             Ok(replayed) => Ok(Work::Replay(replayed)),
             Err(end) => Err(end),
         },
-        Task::Batch(files) => match listed_by_files(alloc, shelf, files, choices.capacity) {
+        Task::Batch(files) => match listed_by_files(alloc, shelf, files, settings.capacity) {
             Ok(listed) => Ok(Work::List(listed)),
             Err(end) => Err(end),
         },
@@ -134,7 +136,7 @@ fn staged_by_files<S: Shelf>(
     requires { AreOptions options }
     ensures staged { IfOk result
         (AreStaged (stage_names named.entry) options (S.held shelf.old)) }
-    ensures ready { IfOk result (λ staged. IsReady (Work.Stages staged)) }
+    ensures ready { IfOk result (λ staged. CanBeDone (Work.Stages staged)) }
     ensures stops { IfErr result (EndsWith (QueryStops (file_names named.entry.files) options
         (reads (S.held shelf.old) (S.faults shelf.old) (S.faults shelf.new)))) }
 
@@ -159,7 +161,7 @@ fn checked_by_files<S: Shelf>(
     requires { AreOptions options }
     ensures checked { IfOk result
         (AreChecked (plan_names named.entry) options (S.held shelf.old)) }
-    ensures ready { IfOk result (λ checked. IsReady (Work.Check checked)) }
+    ensures ready { IfOk result (λ checked. CanBeDone (Work.Check checked)) }
     ensures stops { IfErr result (EndsWith (CheckStops (plan_names named.entry) options
         (reads (S.held shelf.old) (S.faults shelf.old) (S.faults shelf.new)))) }
 

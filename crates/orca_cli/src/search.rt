@@ -2,17 +2,17 @@
 ghost use Rattle.std.specs.Prelude.{◌≡◌, None, IfOk};
 ghost use Rattle.request_props.specs.Numbered.{IsProps};
 ghost use Rattle.command_line.specs.Numbers.{IsWithin};
-ghost use Rattle.command_line.specs.Options.{AreChoices};
+ghost use Rattle.command_line.specs.Options.{AreSettings};
 ghost use Rattle.orca_cli.specs.Answers.{IsSearchEnd};
-ghost use Rattle.orca_cli.specs.Dumps.{replay_choices as choices_of};
+ghost use Rattle.orca_cli.specs.Dumps.{replay_settings as the_replay_settings};
 ghost use Rattle.orca_cli.specs.Sections.{Tells};
 ghost use Rattle.orca_cli.specs.Views.{IsReplayable, text_of};
 
 use crate::answer::ending_of;
 use crate::asked::{Asked, Replayed};
-use crate::dumps::replay_choices;
+use crate::dumps::replay_settings;
 use crate::ending::Ending;
-use command_line::{Choices, GenInput};
+use command_line::{GenInput, Settings};
 use job_engine::{RunNote, search_alone, search_by_crew};
 use orca_io::Gate;
 use std::alloc::{AllocError, Global};
@@ -22,36 +22,36 @@ use std::thread::Threads;
 /// The ending of a query that one worker searches. It returns.
 pub fn searched_alone(
     alloc: Global,
-    choices: Choices,
+    settings: Settings,
     generated: Option<GenInput>,
     asked: &Asked,
     note: &mut RunNote,
 ) -> Result<Ending, AllocError>
     requires props { IsProps asked.now.query asked.now.props }
-    requires choices { AreChoices choices }
-    requires alone { choices.workers ≡ 1 }
+    requires settings { AreSettings settings }
+    requires alone { settings.workers ≡ 1 }
     ensures { IfOk result
-        (λ ending. IsSearchEnd (Tells generated choices asked.now.query) choices
+        (λ ending. IsSearchEnd (Tells generated settings asked.now.query) settings
         asked.now.query note.new ending.status (text_of ending)) }
 {
-    let outcome = search_alone(alloc, &asked.query, &asked.props, choices.capacity, note)?;
-    ending_of(alloc, choices, generated, asked, &outcome)
+    let outcome = search_alone(alloc, &asked.query, &asked.props, settings.capacity, note)?;
+    ending_of(alloc, settings, generated, asked, &outcome)
 }
 
 /// The ending of a query that the workers search whom the command chooses.
 pub fn searched_by_crew<R: Threads + Wait + Sync, G: Gate>(
     rt: &R,
     alloc: Global,
-    choices: Choices,
+    settings: Settings,
     generated: Option<GenInput>,
     asked: &Asked,
     gate: &G,
     note: &mut RunNote,
 ) -> Result<Ending, AllocError>
     requires props { IsProps asked.now.query asked.now.props }
-    requires choices { AreChoices choices }
+    requires settings { AreSettings settings }
     ensures { IfOk result
-        (λ ending. IsSearchEnd (Tells generated choices asked.now.query) choices
+        (λ ending. IsSearchEnd (Tells generated settings asked.now.query) settings
         asked.now.query note.new ending.status (text_of ending)) }
 {
     let outcome = search_by_crew(
@@ -59,12 +59,12 @@ pub fn searched_by_crew<R: Threads + Wait + Sync, G: Gate>(
         alloc,
         &asked.query,
         &asked.props,
-        choices.capacity,
-        choices.workers,
+        settings.capacity,
+        settings.workers,
         gate,
         note,
     )?;
-    ending_of(alloc, choices, generated, asked, &outcome)
+    ending_of(alloc, settings, generated, asked, &outcome)
 }
 
 /// The ending of a dump's query that one worker searches, with what the dump chooses. It returns.
@@ -78,12 +78,12 @@ pub fn replayed_alone(
     requires alone { workers ≡ 1 }
     ensures { IfOk result
         (λ ending. IsSearchEnd
-        (Tells None (choices_of replayed.now.options workers) replayed.now.asked.query)
-        (choices_of replayed.now.options workers) replayed.now.asked.query note.new
+        (Tells None (the_replay_settings replayed.now.options workers) replayed.now.asked.query)
+        (the_replay_settings replayed.now.options workers) replayed.now.asked.query note.new
         ending.status (text_of ending)) }
 {
-    let choices = replay_choices(replayed.options, workers);
-    searched_alone(alloc, choices, None, &replayed.asked, note)
+    let settings = replay_settings(replayed.options, workers);
+    searched_alone(alloc, settings, None, &replayed.asked, note)
 }
 
 /// The same by as many workers.
@@ -99,10 +99,10 @@ pub fn replayed_by_crew<R: Threads + Wait + Sync, G: Gate>(
     requires workers { IsWithin 1 64 workers }
     ensures { IfOk result
         (λ ending. IsSearchEnd
-        (Tells None (choices_of replayed.now.options workers) replayed.now.asked.query)
-        (choices_of replayed.now.options workers) replayed.now.asked.query note.new
+        (Tells None (the_replay_settings replayed.now.options workers) replayed.now.asked.query)
+        (the_replay_settings replayed.now.options workers) replayed.now.asked.query note.new
         ending.status (text_of ending)) }
 {
-    let choices = replay_choices(replayed.options, workers);
-    searched_by_crew(rt, alloc, choices, None, &replayed.asked, gate, note)
+    let settings = replay_settings(replayed.options, workers);
+    searched_by_crew(rt, alloc, settings, None, &replayed.asked, gate, note)
 }

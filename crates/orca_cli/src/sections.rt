@@ -1,13 +1,14 @@
 //! The sections that may stand behind the plan.
 ghost use Rattle.std.specs.Prelude.{◌≡◌, ◌++◌, IfOk};
 ghost use Rattle.orca_cli.specs.Searches.{IsSearch};
-ghost use Rattle.orca_cli.specs.Sections.{GoesOn, IsBehind, IsByWorker, StartsMemo, IsMemo, IsSectionText, IsTrace, StartsTrace, is_asked as is_asked_by};
+ghost use Rattle.orca_cli.specs.Sections.{GoesOn, IsBehind, IsByWorker, StartsMemo, IsMemo, IsSectionText, IsTrace};
+ghost use Rattle.orca_cli.specs.Sections.{StartsTrace, is_asked as the_is_asked};
 ghost use Rattle.orca_cli.specs.Views.{text_of};
 
 use crate::answer::Search;
 use crate::ending::Ending;
 use crate::planning::PlanLines;
-use command_line::Choices;
+use command_line::Settings;
 use goal_children::{children_are_over_the_query, goal_lists_are_known};
 use job_trace::{crew_text, memo_line, memo_text, trace_line, trace_text};
 use std::alloc::{AllocError, Global};
@@ -27,36 +28,36 @@ pub enum Section {
 /// The plan, and behind it the sections that are asked for.
 pub fn with_sections(
     alloc: Global,
-    choices: Choices,
+    settings: Settings,
     search: Search<'_>,
     plan: PlanLines,
 ) -> Result<Ending, AllocError>
-    requires { IsSearch search choices.workers }
+    requires { IsSearch search settings.workers }
     ensures status { IfOk result (λ made. made.status ≡ plan.status) }
     ensures text { IfOk result
-        (λ made. GoesOn choices search.entry.query.now plan.lines.items (text_of made)) }
+        (λ made. GoesOn settings search.entry.query.now plan.lines.items (text_of made)) }
 {
     let ending = Ending::of(alloc, plan.status, plan.lines)?;
-    let ending = with_section(alloc, Section::Memo, choices, search, ending)?;
-    let ending = with_section(alloc, Section::Trace, choices, search, ending)?;
-    with_section(alloc, Section::ByWorker, choices, search, ending)
+    let ending = with_section(alloc, Section::Memo, settings, search, ending)?;
+    let ending = with_section(alloc, Section::Trace, settings, search, ending)?;
+    with_section(alloc, Section::ByWorker, settings, search, ending)
 }
 
 // The ending, and the section behind it where it is asked for.
 fn with_section(
     alloc: Global,
     section: Section,
-    choices: Choices,
+    settings: Settings,
     search: Search<'_>,
     ending: Ending,
 ) -> Result<Ending, AllocError>
-    requires { IsSearch search choices.workers }
+    requires { IsSearch search settings.workers }
     ensures status { IfOk result (λ made. made.status ≡ ending.status) }
     ensures text { IfOk result
-        (λ made. IsBehind choices search.entry.query.now section (text_of ending) (text_of made)) }
+        (λ made. IsBehind settings search.entry.query.now section (text_of ending) (text_of made)) }
 {
-    if section.is_asked(choices) {
-        let text = section.text(alloc, choices, search)?;
+    if section.is_asked(settings) {
+        let text = section.text(alloc, settings, search)?;
         followed(ending, text)
     } else {
         Ok(ending)
@@ -65,13 +66,13 @@ fn with_section(
 
 impl Section {
     // Whether the command asks for it.
-    fn is_asked(self, choices: Choices) -> bool
-        ensures { result ≡ is_asked_by choices self }
+    fn is_asked(self, settings: Settings) -> bool
+        ensures { result ≡ the_is_asked settings self }
     {
         match self {
-            Section::Memo => choices.memo,
-            Section::Trace => choices.trace,
-            Section::ByWorker => choices.by_worker,
+            Section::Memo => settings.memo,
+            Section::Trace => settings.trace,
+            Section::ByWorker => settings.by_worker,
         }
     }
 
@@ -79,24 +80,28 @@ impl Section {
     fn text(
         self,
         alloc: Global,
-        choices: Choices,
+        settings: Settings,
         search: Search<'_>,
     ) -> Result<Vec<u8>, AllocError>
-        requires { IsSearch search choices.workers }
+        requires { IsSearch search settings.workers }
         ensures { IfOk result
-            (λ text. IsSectionText choices search.entry.query.now self text.items) }
+            (λ text. IsSectionText settings search.entry.query.now self text.items) }
     {
         match self {
-            Section::Memo => memo_section(alloc, choices, search),
-            Section::Trace => trace_section(alloc, choices, search),
-            Section::ByWorker => crew_section(alloc, choices, search),
+            Section::Memo => memo_section(alloc, settings, search),
+            Section::Trace => trace_section(alloc, settings, search),
+            Section::ByWorker => crew_section(alloc, settings, search),
         }
     }
 }
 
 // The bytes of the memo's text.
-fn memo_section(alloc: Global, choices: Choices, search: Search<'_>) -> Result<Vec<u8>, AllocError>
-    requires { IsSearch search choices.workers }
+fn memo_section(
+    alloc: Global,
+    settings: Settings,
+    search: Search<'_>,
+) -> Result<Vec<u8>, AllocError>
+    requires { IsSearch search settings.workers }
     ensures { IfOk result (λ text. IsMemo search.entry.query.now text.items) }
 {
     // The words of members are those of expressions that groups can hold.
@@ -105,8 +110,12 @@ fn memo_section(alloc: Global, choices: Choices, search: Search<'_>) -> Result<V
 }
 
 // The bytes of the trace's text.
-fn trace_section(alloc: Global, choices: Choices, search: Search<'_>) -> Result<Vec<u8>, AllocError>
-    requires { IsSearch search choices.workers }
+fn trace_section(
+    alloc: Global,
+    settings: Settings,
+    search: Search<'_>,
+) -> Result<Vec<u8>, AllocError>
+    requires { IsSearch search settings.workers }
     ensures { IfOk result (λ text. IsTrace search.entry.query.now text.items) }
 {
     // The words of members are those of expressions that groups can hold, and those of goals are over these.
@@ -123,10 +132,14 @@ fn trace_section(alloc: Global, choices: Choices, search: Search<'_>) -> Result<
 }
 
 // The bytes of the text by worker.
-fn crew_section(alloc: Global, choices: Choices, search: Search<'_>) -> Result<Vec<u8>, AllocError>
-    requires { IsSearch search choices.workers }
+fn crew_section(
+    alloc: Global,
+    settings: Settings,
+    search: Search<'_>,
+) -> Result<Vec<u8>, AllocError>
+    requires { IsSearch search settings.workers }
     ensures { IfOk result
-        (λ text. IsByWorker search.entry.query.now choices.workers text.items) }
+        (λ text. IsByWorker search.entry.query.now settings.workers text.items) }
 {
     // The words of goals are those of goals over the query.
     goal_lists_are_known();
@@ -136,10 +149,10 @@ fn crew_section(alloc: Global, choices: Choices, search: Search<'_>) -> Result<V
 /// The bytes of the first line of the memo's text.
 pub fn memo_first_line(
     alloc: Global,
-    choices: Choices,
+    settings: Settings,
     search: Search<'_>,
 ) -> Result<Vec<u8>, AllocError>
-    requires { IsSearch search choices.workers }
+    requires { IsSearch search settings.workers }
     ensures { IfOk result (λ line. StartsMemo search.entry.query.now line.items) }
 {
     // The words of members are those of expressions that groups can hold.
@@ -150,10 +163,10 @@ pub fn memo_first_line(
 /// The bytes of the first line of the trace's text.
 pub fn trace_first_line(
     alloc: Global,
-    choices: Choices,
+    settings: Settings,
     search: Search<'_>,
 ) -> Result<Vec<u8>, AllocError>
-    requires { IsSearch search choices.workers }
+    requires { IsSearch search settings.workers }
     ensures { IfOk result (λ line. StartsTrace search.entry.query.now line.items) }
 {
     // The words of goals are those of goals over the query, which have words.

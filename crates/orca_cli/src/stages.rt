@@ -1,19 +1,19 @@
 //! How a run ends that plans its query in stages.
-ghost use Rattle.std.specs.Prelude.{◌≡◌, ◌++◌, IfOk, List as Listed, ℕ};
+ghost use Rattle.std.specs.Prelude.{◌≡◌, ◌++◌, IfOk, List as AnyList, ℕ};
 ghost use Rattle.request_props.specs.Numbered.{IsProps};
 ghost use Rattle.plan_lines.specs.Found.{IsFoundText};
 ghost use Rattle.stage_plan.specs.Stages.{query_in};
 ghost use Rattle.command_line.specs.HeldStages.{stages_read};
-ghost use Rattle.command_line.specs.Options.{AreChoices};
+ghost use Rattle.command_line.specs.Options.{AreSettings};
 ghost use Rattle.orca_cli.specs.Searches.{status_for};
-ghost use Rattle.orca_cli.specs.Staged.{IsStagedEnd, stage_lines as lines_of_stages};
+ghost use Rattle.orca_cli.specs.Staged.{IsStagedEnd, stage_lines as the_stage_lines};
 ghost use Rattle.orca_cli.specs.Views.{text_of};
 
 use crate::asked::{Asked, InStages};
 use crate::ending::{Ending, too_many_entries};
 use crate::planning::status_of;
 use crate::stage_text::stage_lines;
-use command_line::Choices;
+use command_line::Settings;
 use orca_base::List;
 use orca_io::Gate;
 use plan_report::plan_text;
@@ -30,13 +30,13 @@ use std::thread::Threads;
 pub fn stages_ending<R: Threads + Wait + Sync, G: Gate>(
     rt: &R,
     alloc: Global,
-    choices: Choices,
+    settings: Settings,
     staged: &mut InStages,
     gate: &G,
 ) -> Result<Ending, AllocError>
     requires props { IsProps staged.old.asked.query staged.old.asked.props }
-    requires choices { AreChoices choices }
-    ensures { IfOk result (λ ending. IsStagedEnd staged.old.asked.query choices.capacity
+    requires settings { AreSettings settings }
+    ensures { IfOk result (λ ending. IsStagedEnd staged.old.asked.query settings.capacity
         (stages_read staged.old.stages) ending.status (text_of ending)) }
 {
     // For the proof: the plan is the least one of the stage of this number.
@@ -49,8 +49,8 @@ pub fn stages_ending<R: Threads + Wait + Sync, G: Gate>(
         &mut staged.asked.query,
         &staged.asked.props,
         stages,
-        choices.capacity,
-        choices.workers,
+        settings.capacity,
+        settings.workers,
         gate,
     )?;
     match found {
@@ -65,7 +65,7 @@ pub fn stages_ending<R: Threads + Wait + Sync, G: Gate>(
             )
         }
         Staged::NoPlan => told(alloc, &mut staged.asked, stages[0], &Found::NoPlan, &ran),
-        Staged::Full { stage: _ } => too_many_entries(alloc, choices.capacity),
+        Staged::Full { stage: _ } => too_many_entries(alloc, settings.capacity),
     }
 }
 
@@ -79,9 +79,9 @@ fn told(
 ) -> Result<Ending, AllocError>
     requires { IsProps asked.old.query asked.old.props }
     ensures status { IfOk result (λ made. made.status ≡ status_for found.now) }
-    ensures text { IfOk result (λ made. (plan : Listed ℕ)
+    ensures text { IfOk result (λ made. (plan : AnyList ℕ)
         × IsFoundText (query_in asked.old.query stage) found.now plan
-        × (text_of made ≡ lines_of_stages ran.now ++ plan)) }
+        × (text_of made ≡ the_stage_lines ran.now ++ plan)) }
 {
     let mut texts = stage_lines(alloc, ran)?;
     texts.push(text_in_stage(alloc, asked, stage, found)?)?;

@@ -13,7 +13,7 @@ use crate::prepared::{USAGE, prepared};
 use crate::status::Status;
 use crate::text::put_texts;
 use crate::work::{done_alone, done_as_chosen};
-use command_line::{Choices, Task, read_command};
+use command_line::{Settings, Task, read_command};
 use job_engine::RunNote;
 use orca_io::{Gate, Shelf, Sink};
 use std::alloc::Global;
@@ -80,13 +80,13 @@ pub fn is_for_one(words: &[String]) -> bool
     ensures { IsTrue result ↔ AsksForOne (command_of (map string_bytes words.now)) }
 {
     match read_command(words) {
-        Some(command) => is_task_for_one(command.task, command.choices),
+        Some(command) => is_task_for_one(command.task, command.settings),
         None => false,
     }
 }
 
-fn is_task_for_one(task: Task<'_>, choices: Choices) -> bool
-    ensures { IsTrue result ↔ IsForOne (task_read task.entry) choices }
+fn is_task_for_one(task: Task<'_>, settings: Settings) -> bool
+    ensures { IsTrue result ↔ IsForOne (task_read task.entry) settings }
 {
     match task {
         Task::Plan(_)
@@ -94,7 +94,7 @@ fn is_task_for_one(task: Task<'_>, choices: Choices) -> bool
         | Task::Check(_)
         | Task::Dump(_)
         | Task::Replay(_)
-        | Task::Batch(_) => choices.workers == 1,
+        | Task::Batch(_) => settings.workers == 1,
         Task::Stages(_) => false,
     }
 }

@@ -2,9 +2,9 @@
 ghost use Rattle.std.specs.Prelude.{◌≡◌, ◌↔◌, IsTrue, Option};
 ghost use Rattle.command_line.specs.Command.{AnyCommand};
 ghost use Rattle.command_line.specs.Views.{task_read};
-ghost use Rattle.orca_cli.specs.Prepared.{Reads, generated_in as input_of};
+ghost use Rattle.orca_cli.specs.Prepared.{Reads, generated_in as the_generated_in};
 ghost use Rattle.orca_cli.specs.Run.{IsRun};
-ghost use Rattle.orca_cli.specs.Views.{EndsWith, IsReady, IsWanted, IsWorkForOne};
+ghost use Rattle.orca_cli.specs.Views.{EndsWith, CanBeDone, IsWanted, IsWorkForOne};
 
 use crate::asked::{Wanted, Work};
 use crate::batch::{batch_alone, batch_by_crew};
@@ -22,16 +22,16 @@ use std::thread::Threads;
 
 /// The end of a run whose work one worker does, where no crew may be. It returns.
 pub fn done_alone(alloc: Global, wanted: &Wanted<'_>, note: &mut RunNote) -> End
-    requires ready { IsReady wanted.now.work }
-    requires alone { IsWorkForOne wanted.now.work wanted.now.command.choices.workers }
+    requires ready { CanBeDone wanted.now.work }
+    requires alone { IsWorkForOne wanted.now.work wanted.now.command.settings.workers }
     ensures { (named : Option AnyCommand) (shelf : Reads) → IsWanted named shelf.held wanted.now
         → EndsWith (IsRun named shelf note.old note.new) result }
 {
-    let choices = wanted.command.choices;
+    let settings = wanted.command.settings;
     match &wanted.work {
         Work::Query(asked) => {
             let generated = generated_in(wanted.command.task);
-            match searched_alone(alloc, choices, generated, asked, note) {
+            match searched_alone(alloc, settings, generated, asked, note) {
                 Ok(ending) => End::Told(ending),
                 Err(AllocError) => End::Memory,
             }
@@ -41,15 +41,15 @@ pub fn done_alone(alloc: Global, wanted: &Wanted<'_>, note: &mut RunNote) -> End
             Ok(ending) => End::Told(ending),
             Err(AllocError) => End::Memory,
         },
-        Work::Dump(dumped) => match dump_ending(alloc, dumped, dump_options(choices)) {
+        Work::Dump(dumped) => match dump_ending(alloc, dumped, dump_options(settings)) {
             Ok(ending) => End::Told(ending),
             Err(AllocError) => End::Memory,
         },
-        Work::Replay(replayed) => match replayed_alone(alloc, choices.workers, replayed, note) {
+        Work::Replay(replayed) => match replayed_alone(alloc, settings.workers, replayed, note) {
             Ok(ending) => End::Told(ending),
             Err(AllocError) => End::Memory,
         },
-        Work::List(listed) => match batch_alone(alloc, choices, listed) {
+        Work::List(listed) => match batch_alone(alloc, settings, listed) {
             Ok(ending) => End::Told(ending),
             Err(end) => end,
         },
@@ -64,20 +64,20 @@ fn done_by_crew<R: Threads + Wait + Sync, G: Gate>(
     gate: &G,
     note: &mut RunNote,
 ) -> End
-    requires ready { IsReady wanted.old.work }
+    requires ready { CanBeDone wanted.old.work }
     ensures { (named : Option AnyCommand) (shelf : Reads) → IsWanted named shelf.held wanted.old
         → EndsWith (IsRun named shelf note.old note.new) result }
 {
-    let choices = wanted.command.choices;
+    let settings = wanted.command.settings;
     match &mut wanted.work {
         Work::Query(asked) => {
             let generated = generated_in(wanted.command.task);
-            match searched_by_crew(rt, alloc, choices, generated, asked, gate, note) {
+            match searched_by_crew(rt, alloc, settings, generated, asked, gate, note) {
                 Ok(ending) => End::Told(ending),
                 Err(AllocError) => End::Memory,
             }
         }
-        Work::Stages(staged) => match stages_ending(rt, alloc, choices, staged, gate) {
+        Work::Stages(staged) => match stages_ending(rt, alloc, settings, staged, gate) {
             Ok(ending) => End::Told(ending),
             Err(AllocError) => End::Memory,
         },
@@ -85,17 +85,17 @@ fn done_by_crew<R: Threads + Wait + Sync, G: Gate>(
             Ok(ending) => End::Told(ending),
             Err(AllocError) => End::Memory,
         },
-        Work::Dump(dumped) => match dump_ending(alloc, dumped, dump_options(choices)) {
+        Work::Dump(dumped) => match dump_ending(alloc, dumped, dump_options(settings)) {
             Ok(ending) => End::Told(ending),
             Err(AllocError) => End::Memory,
         },
         Work::Replay(replayed) => {
-            match replayed_by_crew(rt, alloc, choices.workers, replayed, gate, note) {
+            match replayed_by_crew(rt, alloc, settings.workers, replayed, gate, note) {
                 Ok(ending) => End::Told(ending),
                 Err(AllocError) => End::Memory,
             }
         }
-        Work::List(listed) => match batch_by_crew(rt, alloc, choices, listed, gate) {
+        Work::List(listed) => match batch_by_crew(rt, alloc, settings, listed, gate) {
             Ok(ending) => End::Told(ending),
             Err(end) => end,
         },
@@ -111,7 +111,7 @@ pub fn done_as_chosen<R: Threads + Wait + Sync, G: Gate>(
     gate: &G,
     note: &mut RunNote,
 ) -> End
-    requires { IsReady wanted.old.work }
+    requires { CanBeDone wanted.old.work }
     ensures { (named : Option AnyCommand) (shelf : Reads) → IsWanted named shelf.held wanted.old
         → EndsWith (IsRun named shelf note.old note.new) result }
 {
@@ -125,11 +125,11 @@ pub fn done_as_chosen<R: Threads + Wait + Sync, G: Gate>(
 impl Wanted<'_> {
     // Whether one worker does the work, where no crew may be.
     fn is_for_one(&self) -> bool
-        ensures { IsTrue result ↔ IsWorkForOne self.now.work self.now.command.choices.workers }
+        ensures { IsTrue result ↔ IsWorkForOne self.now.work self.now.command.settings.workers }
     {
         match self.work {
             Work::Query(_) | Work::Check(_) | Work::Dump(_) | Work::Replay(_) | Work::List(_) =>
-                self.command.choices.workers == 1,
+                self.command.settings.workers == 1,
             Work::Stages(_) => false,
         }
     }
@@ -137,7 +137,7 @@ impl Wanted<'_> {
 
 // What is made for `gen`.
 fn generated_in(task: Task<'_>) -> Option<GenInput>
-    ensures { result ≡ input_of (task_read task.entry) }
+    ensures { result ≡ the_generated_in (task_read task.entry) }
 {
     match task {
         Task::Gen(made) => Some(made.input),

@@ -1,4 +1,5 @@
-ghost use Rattle.std.specs.Prelude.{◌≡◌, ◌≤◌, ◌<◌, ◌+◌, ◌↔◌, [], ℕ, List, None, length, OnOk, OnErr, IfErr, IsErrOf, IsTrue};
+ghost use Rattle.std.specs.Prelude.{◌≡◌, ◌≤◌, ◌<◌, ◌+◌, ◌↔◌, [], ℕ, List, None, length, OnOk, OnErr, IfErr, IsErrOf};
+ghost use Rattle.std.specs.Prelude.{IsTrue};
 ghost use Rattle.orca_io.specs.declared.shelf.ShelfError.TheVariants.{Failed, TooLong};
 ghost use Rattle.orca_io.specs.Shelf.{ReadsAll, HasCause, AddsWhole};
 ghost use Rattle.orca_io.specs.MemShelf.{held_by, faults_of, calls_of, failing_of, fails, faults_after};

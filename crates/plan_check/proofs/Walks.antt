@@ -18,8 +18,8 @@ use Rattle.plan_tree.specs.Spells.{Spells}
 use Rattle.plan_tree.specs.declared.node.Node.{Node}
 use Rattle.plan_tree.specs.declared.plan.Plan.{Plan}
 use Rattle.plan_tree.specs.declared.plan.Plan.TheVariants.{Leaf, Over', Two'}
-use Rattle.plan_tree.specs.declared.seen.Below.{Below}
-use Rattle.plan_tree.specs.declared.seen.Below.TheVariants as below
+use Rattle.plan_tree.specs.declared.seen.Kids.{Kids}
+use Rattle.plan_tree.specs.declared.seen.Kids.TheVariants as below
 use Rattle.plan_check.specs.Kids.{HasKids, RootHasKids, RootFits}
 use Rattle.plan_check.specs.Nodes.{IsKindOf, IsNodeOf}
 use Rattle.plan_check.specs.Passes.{IsFirst, IsLast, both_of, AreNodes, ArePlans, IsKindWalk, IsNodeWalk, AreKnown}
@@ -61,7 +61,7 @@ module _ (q : Query) where
   -- ---- a number
 
   -- that of a node of the query
-  pub known_node : (node : Node) (kind : NodeKind) (seen : Below) (own : Walked) → NodesAreOne → IsNode node kind
+  pub known_node : (node : Node) (kind : NodeKind) (seen : Kids) (own : Walked) → NodesAreOne → IsNode node kind
       → IsKindOf q kind → own.findings.nodes ≡ 1 → own.findings.unknown ≡ None → IsKindWalk q kind seen own
       → IsNodeWalk q node seen own
   known_node node kind seen own one is of_query count known walk = record {
@@ -76,7 +76,7 @@ module _ (q : Query) where
   }
 
   -- that of none
-  pub unknown_node : (node : Node) (seen : Below) (own : Walked) → own.findings.nodes ≡ 1
+  pub unknown_node : (node : Node) (seen : Kids) (own : Walked) → own.findings.nodes ≡ 1
       → own.findings.unknown ≡ Some 0 → (IsNodeOf q node → ⊥) → IsNodeWalk q node seen own
   unknown_node node seen own count place unknown = record {
     nodes = record {
@@ -95,7 +95,7 @@ module _ (q : Query) where
     pub cost : own.findings.cost ≡ local_cost (shape_of q (root_node tree) (kids_of q tree))
     pub plans : ArePlans q (tree ∷ []) own.findings
 
-  root_plans : (tree : Tree) (seen : Below) (own : Walked) → own.findings.nodes ≡ 1 → kids_seen seen ≡ kids_of q tree
+  root_plans : (tree : Tree) (seen : Kids) (own : Walked) → own.findings.nodes ≡ 1 → kids_seen seen ≡ kids_of q tree
       → IsKindWalk q (root_node tree) seen own → ArePlans q (tree ∷ []) own.findings
   root_plans tree seen own one sees walk = record {
     count = one;
@@ -108,7 +108,7 @@ module _ (q : Query) where
         walk.tells_fits));
   }
 
-  root_walk : (tree : Tree) (seen : Below) (own : Walked) → own.findings.nodes ≡ 1 → kids_seen seen ≡ kids_of q tree
+  root_walk : (tree : Tree) (seen : Kids) (own : Walked) → own.findings.nodes ≡ 1 → kids_seen seen ≡ kids_of q tree
       → HaveGroups q seen → IsKindWalk q (root_node tree) seen own → IsRootWalk tree own
   root_walk tree seen own one sees groups walk = record {
     kid = walk.kid ∙ ap (kid_under q (root_node tree)) sees;

@@ -13,7 +13,7 @@ use Rattle.plan_space.specs.Valid.{NodeFits}
 use Rattle.plan_tree.specs.Nodes.{IsNode}
 use Rattle.plan_tree.specs.Seen.{kids_seen, HaveGroups}
 use Rattle.plan_tree.specs.Spells.{Spells}
-use Rattle.plan_tree.specs.declared.seen.Below.{Below}
+use Rattle.plan_tree.specs.declared.seen.Kids.{Kids}
 use Rattle.plan_tree.specs.declared.node.Node.{Node}
 use Rattle.plan_tree.specs.declared.plan.Plan.{Plan}
 use Rattle.plan_tree.specs.declared.plan.Plan.TheVariants.{Leaf, Over', Two'}
@@ -84,7 +84,7 @@ pub record ArePlans (q : Query) (plans : List Tree) (found : Findings) : Type 0 
 -- ---- the walk
 
 -- the node of the query is seen so over these plans, costs so much, and is right or wrong
-pub record IsKindWalk (q : Query) (kind : NodeKind) (below : Below) (walked : Walked) : Type 0 where
+pub record IsKindWalk (q : Query) (kind : NodeKind) (below : Kids) (walked : Walked) : Type 0 where
   pub kid : walked.kid ≡ kid_under q kind (kids_seen below)
   pub cost : HaveGroups q below → walked.findings.cost ≡ local_cost (shape_of q kind (kids_seen below))
   pub has_kids : Bool
@@ -95,7 +95,7 @@ pub record IsKindWalk (q : Query) (kind : NodeKind) (below : Below) (walked : Wa
   pub tells_fits : IsTrue fits ↔ NodeFits (IsCandidate q) q kind (kids_seen below)
 
 -- the number is that of a node of the query which was looked at so, or of none
-pub record IsNodeWalk (q : Query) (node : Node) (below : Below) (walked : Walked) : Type 0 where
+pub record IsNodeWalk (q : Query) (node : Node) (below : Kids) (walked : Walked) : Type 0 where
   pub nodes : AreNodes q (node ∷ []) walked.findings
   pub kind : IsNodeOf q node → (kind : NodeKind) → IsNode node kind → IsKindWalk q kind below walked
 

@@ -8,11 +8,11 @@ ghost use Rattle.plan_tree.specs.Seen.{kids_seen};
 ghost use Rattle.plan_check.specs.Kids.{IsOne, HasKids};
 
 use plan_space::NodeKind;
-use plan_tree::Below;
+use plan_tree::Kids;
 use query_core::Children;
 
 /// Whether the kids are right in number and group.
-pub fn has_kids(kind: NodeKind, below: Below) -> bool
+pub fn has_kids(kind: NodeKind, below: Kids) -> bool
     ensures { IsTrue result ↔ HasKids kind (kids_seen below) }
 {
     match kind {
@@ -21,24 +21,24 @@ pub fn has_kids(kind: NodeKind, below: Below) -> bool
     }
 }
 
-fn is_one(below: Below) -> bool
+fn is_one(below: Kids) -> bool
     ensures { IsTrue result ↔ IsOne (kids_seen below) }
 {
     match below {
-        Below::Nothing => false,
-        Below::One(_) => true,
-        Below::Two(_, _) => false,
+        Kids::Nothing => false,
+        Kids::One(_) => true,
+        Kids::Two(_, _) => false,
     }
 }
 
 // Whether the kids are plans of the children, in order.
-fn are_of(children: Children, below: Below) -> bool
+fn are_of(children: Children, below: Kids) -> bool
     ensures { IsTrue result ↔ AreOf (groups_of children) (kids_seen below) }
 {
     match (children, below) {
-        (Children::Zero, Below::Nothing) => true,
-        (Children::One(child), Below::One(kid)) => kid.group == child,
-        (Children::Two(first, second), Below::Two(left, right)) => {
+        (Children::Zero, Kids::Nothing) => true,
+        (Children::One(child), Kids::One(kid)) => kid.group == child,
+        (Children::Two(first, second), Kids::Two(left, right)) => {
             left.group == first && right.group == second
         }
         _ => false,

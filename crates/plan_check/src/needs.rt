@@ -12,12 +12,12 @@ ghost use Rattle.plan_check.specs.Nodes.{IsKindOf};
 
 use cost_units::Class;
 use plan_space::{Enforcer, Kid, LeftDist, LeftOrder, Line, NodeKind};
-use plan_tree::{Below, given_satisfies, line_of};
+use plan_tree::{Kids, given_satisfies, line_of};
 use query_core::{Children, KeyParts, PhysicalExpr, Query};
 use request_props::{Dist, Given, GivenDist, GivenOrder, Props, Request, class_of};
 
 /// Whether the node may stand over plans that are seen so.
-pub fn node_fits(query: &Query, props: &Props, kind: NodeKind, below: Below) -> bool
+pub fn node_fits(query: &Query, props: &Props, kind: NodeKind, below: Kids) -> bool
     requires props { IsProps query.now props.now }
     requires of_query { IsKindOf query.now kind }
     ensures { IsTrue result ↔
@@ -32,14 +32,14 @@ pub fn node_fits(query: &Query, props: &Props, kind: NodeKind, below: Below) -> 
 // ---- enforcers
 
 // Whether the enforcer stands over one plan, and may.
-fn over_one(query: &Query, props: &Props, enforcer: Enforcer, below: Below) -> bool
+fn over_one(query: &Query, props: &Props, enforcer: Enforcer, below: Kids) -> bool
     requires { IsProps query.now props.now }
     ensures { IsTrue result ↔ OverOne (EnforcerFits query.now enforcer) (kids_seen below) }
 {
     match below {
-        Below::Nothing => false,
-        Below::One(kid) => enforcer_fits(query, props, enforcer, kid),
-        Below::Two(_, _) => false,
+        Kids::Nothing => false,
+        Kids::One(kid) => enforcer_fits(query, props, enforcer, kid),
+        Kids::Two(_, _) => false,
     }
 }
 
@@ -81,7 +81,7 @@ fn can_redistribute(query: &Query, props: &Props, list: u32, kid: Kid) -> bool
 
 // ---- expressions
 
-fn native_fits(query: &Query, props: &Props, expr: PhysicalExpr, mode: u32, below: Below) -> bool
+fn native_fits(query: &Query, props: &Props, expr: PhysicalExpr, mode: u32, below: Kids) -> bool
     requires { IsProps query.now props.now }
     ensures { IsTrue result ↔ NativeFits query.now expr mode (kids_seen below) }
 {
@@ -92,17 +92,17 @@ fn native_fits(query: &Query, props: &Props, expr: PhysicalExpr, mode: u32, belo
 }
 
 // Whether the line may stand over these plans, where the children are these groups.
-fn line_fits(query: &Query, props: &Props, line: Line, children: Children, below: Below) -> bool
+fn line_fits(query: &Query, props: &Props, line: Line, children: Children, below: Kids) -> bool
     requires { IsProps query.now props.now }
     ensures { IsTrue result ↔
         LineFits query.now line children (kids_seen below) }
 {
     match (line, below) {
-        (Line::Leaf(_, _), Below::Nothing) => children == Children::Zero,
-        (Line::Above(dist, order), Below::One(kid)) => {
+        (Line::Leaf(_, _), Kids::Nothing) => children == Children::Zero,
+        (Line::Above(dist, order), Kids::One(kid)) => {
             children == Children::One(kid.group) && left_needs(query, props, dist, order, kid.given)
         }
-        (Line::Beside(dist, order, request), Below::Two(left, right)) => {
+        (Line::Beside(dist, order, request), Kids::Two(left, right)) => {
             are_these(children, left.group, right.group)
                 && left_needs(query, props, dist, order, left.given)
                 && given_satisfies(query, props, right.given, request)

@@ -3,10 +3,10 @@
 
 ghost use Rattle.std.specs.Prelude.{◌↔◌, IsTrue, MatchOption};
 ghost use Rattle.request_props.specs.Numbered.{IsProps};
-ghost use Rattle.plan_tree.specs.Nodes.{IsInRange, IsNode};
+ghost use Rattle.plan_tree.specs.Nodes.{IsNodeInRange, IsNode};
 ghost use Rattle.std.specs.Option.{IsSome};
 ghost use Rattle.query_core.specs.Expressions.{expr_of, IsPacked};
-ghost use Rattle.plan_space.specs.Lines.{line_of as line_by_table};
+ghost use Rattle.plan_space.specs.Lines.{line_of as the_line_of};
 ghost use Rattle.plan_check.specs.Nodes.{IsOrder, IsEnforcerOf, IsNativeOf, IsKindOf, IsNodeOf};
 
 use plan_space::{Enforcer, NodeKind};
@@ -29,7 +29,7 @@ pub fn known_kind(query: &Query, props: &Props, node: Node) -> Option<NodeKind>
 /// Whether the node is one of the query.
 pub fn is_kind_of(query: &Query, props: &Props, kind: NodeKind) -> bool
     requires props { IsProps query.now props.now }
-    requires in_range { IsInRange kind }
+    requires in_range { IsNodeInRange kind }
     ensures { IsTrue result ↔ IsKindOf query.now kind }
 {
     match kind {
@@ -49,7 +49,7 @@ fn is_native_of(query: &Query, props: &Props, expr: PhysicalExpr, mode: u32) -> 
 
 fn has_line(query: &Query, props: &Props, expr: PhysicalExpr, mode: u32) -> bool
     requires { IsProps query.now props.now }
-    ensures { IsTrue result ↔ IsSome (line_by_table query.now expr mode) }
+    ensures { IsTrue result ↔ IsSome (the_line_of query.now expr mode) }
 {
     line_of(query, props, expr, mode).is_some()
 }

@@ -14,7 +14,7 @@ use crate::needs::node_fits;
 use crate::nodes::known_kind;
 use crate::places::own_place;
 use plan_space::{Enforcer, Kid, NodeKind};
-use plan_tree::{Below, Node, Plan, cost_above_any, nodes_are_one, seen_above};
+use plan_tree::{Kids, Node, Plan, cost_above_any, nodes_are_one, seen_above};
 use query_core::Query;
 use request_props::Props;
 
@@ -45,10 +45,10 @@ pub fn walk(query: &Query, props: &Props, plan: &Plan) -> Walked
     ensures nodes { result.findings.nodes ≡ length (nodes_of plan.now) }
 {
     match plan {
-        Plan::Leaf(node) => node_walk(query, props, *node, Below::Nothing),
+        Plan::Leaf(node) => node_walk(query, props, *node, Kids::Nothing),
         Plan::Over(node, kid) => {
             let only = walk(query, props, kid);
-            let own = node_walk(query, props, *node, Below::One(only.kid));
+            let own = node_walk(query, props, *node, Kids::One(only.kid));
             Walked {
                 kid: own.kid,
                 findings: both(own.findings, only.findings),
@@ -57,7 +57,7 @@ pub fn walk(query: &Query, props: &Props, plan: &Plan) -> Walked
         Plan::Two(node, left, right) => {
             let first = walk(query, props, left);
             let second = walk(query, props, right);
-            let own = node_walk(query, props, *node, Below::Two(first.kid, second.kid));
+            let own = node_walk(query, props, *node, Kids::Two(first.kid, second.kid));
             let below = both(first.findings, second.findings);
             Walked {
                 kid: own.kid,
@@ -68,7 +68,7 @@ pub fn walk(query: &Query, props: &Props, plan: &Plan) -> Walked
 }
 
 // A node over plans that are seen so.
-fn node_walk(query: &Query, props: &Props, node: Node, below: Below) -> Walked
+fn node_walk(query: &Query, props: &Props, node: Node, below: Kids) -> Walked
     requires { IsProps query.now props.now }
     ensures walked { IsNodeWalk query.now node below result }
     ensures bounds { AreInBounds result.findings }
@@ -89,7 +89,7 @@ fn node_walk(query: &Query, props: &Props, node: Node, below: Below) -> Walked
 }
 
 // The same of a node of the query.
-fn kind_walk(query: &Query, props: &Props, kind: NodeKind, below: Below) -> Walked
+fn kind_walk(query: &Query, props: &Props, kind: NodeKind, below: Kids) -> Walked
     requires props { IsProps query.now props.now }
     requires of_query { IsKindOf query.now kind }
     ensures walked { IsKindWalk query.now kind below result }

@@ -17,8 +17,8 @@ use Rattle.plan_tree.specs.Seen.{kids_seen, HasGroup, HaveGroups}
 use Rattle.plan_tree.specs.declared.node.Node.{Node}
 use Rattle.plan_tree.specs.declared.plan.Plan.{Plan}
 use Rattle.plan_tree.specs.declared.plan.Plan.TheVariants.{Leaf, Over', Two'}
-use Rattle.plan_tree.specs.declared.seen.Below.{Below}
-use Rattle.plan_tree.specs.declared.seen.Below.TheVariants as below
+use Rattle.plan_tree.specs.declared.seen.Kids.{Kids}
+use Rattle.plan_tree.specs.declared.seen.Kids.TheVariants as below
 use Rattle.plan_lines.specs.Text.{indent, node_line, plan_lines}
 use Rattle.plan_lines.specs.Groups.{HasGroups}
 use Rattle.plan_lines.specs.Lines.{AddsNode, AddsPlan, IsSeenOf, IsSeenOver}
@@ -88,7 +88,7 @@ module _ (q : Query) (spaces deeper : List ℕ) (deepens : deeper ≡ spaces ++ 
   deeper_by depth at = deepens ∙ ap (λ (s : List ℕ). s ++ codes "  ") at
 
   -- the line that was added is the node's over these kids, and the others were added before
-  node_behind : (node : Node) (seen : Below) (kind : NodeKind) (kids : List Kid) (depth : ℕ)
+  node_behind : (node : Node) (seen : Kids) (kind : NodeKind) (kids : List Kid) (depth : ℕ)
       (before middle rest after : List ℕ) → AddsNode q spaces node seen middle after
       → kids_seen seen ≡ kids → IsNode node kind → spaces ≡ indent depth → HasGroup q kind → HaveGroups q seen
       → middle ≡ before ++ reverse rest → after ≡ before ++ reverse (node_line q depth kind kids ++ rest)

@@ -11,18 +11,18 @@ use Rattle.plan_tree.specs.Spells.{Spells}
 use Rattle.plan_tree.specs.Seen.{kids_seen, HasGroup, HaveGroups}
 use Rattle.plan_tree.specs.declared.node.Node.{Node}
 use Rattle.plan_tree.specs.declared.plan.Plan.{Plan}
-use Rattle.plan_tree.specs.declared.seen.Below.{Below}
+use Rattle.plan_tree.specs.declared.seen.Kids.{Kids}
 use Rattle.plan_lines.specs.Text.{indent, node_line, plan_lines}
 use Rattle.plan_lines.specs.Groups.{HasGroups}
 
 -- the bytes are the node's line behind the spaces, over plans that are seen so, where the groups are the query's
-abbrev pub IsKindLine : Query → List ℕ → NodeKind → Below → List ℕ → Type 0
+abbrev pub IsKindLine : Query → List ℕ → NodeKind → Kids → List ℕ → Type 0
 IsKindLine q spaces kind below line =
     (depth : ℕ) → spaces ≡ indent depth → HasGroup q kind → HaveGroups q below
     → line ≡ node_line q depth kind (kids_seen below)
 
 -- the same of whichever node the program's node is
-abbrev pub IsNodeLine : Query → List ℕ → Node → Below → List ℕ → Type 0
+abbrev pub IsNodeLine : Query → List ℕ → Node → Kids → List ℕ → Type 0
 IsNodeLine q spaces node below line = (kind : NodeKind) → IsNode node kind → IsKindLine q spaces kind below line
 
 -- the bytes are the lines of whichever tree the plan is, where the groups are the query's
@@ -36,11 +36,11 @@ abbrev pub IsSeenOf : Query → Plan → Kid → Type 0
 IsSeenOf q plan seen = (tree : Tree) → Spells plan tree → seen ≡ kid_of q tree
 
 -- this is seen of the node over these plans
-abbrev pub IsSeenOver : Query → Node → Below → Kid → Type 0
+abbrev pub IsSeenOver : Query → Node → Kids → Kid → Type 0
 IsSeenOver q node below seen = (kind : NodeKind) → IsNode node kind → seen ≡ kid_under q kind (kids_seen below)
 
 -- one line was added to the text, the last byte first, and it is the node's
-abbrev pub AddsNode : Query → List ℕ → Node → Below → List ℕ → List ℕ → Type 0
+abbrev pub AddsNode : Query → List ℕ → Node → Kids → List ℕ → List ℕ → Type 0
 AddsNode q spaces node below before after =
     (line : List ℕ) × (after ≡ before ++ reverse line) × IsNodeLine q spaces node below line
 

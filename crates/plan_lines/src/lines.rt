@@ -3,14 +3,14 @@
 
 ghost use Rattle.std.specs.Prelude.{◌≡◌, IfOk, OnOk, string_bytes};
 ghost use Rattle.request_props.specs.Numbered.{IsProps};
-ghost use Rattle.plan_space.specs.declared.nodes.NodeKind.{NodeKind as Kind};
+ghost use Rattle.plan_space.specs.declared.nodes.NodeKind.{NodeKind as AnyNodeKind};
 ghost use Rattle.plan_tree.specs.Nodes.{IsNode};
 ghost use Rattle.plan_lines.specs.Text as texts;
 ghost use Rattle.plan_lines.specs.Lines.{AddsPlan, AddsNode, IsNodeLine, IsKindLine, IsSeenOf, IsSeenOver};
 
 use crate::nodes::node_text;
 use plan_space::{Enforcer, Kid, NodeKind};
-use plan_tree::{Below, Node, Plan, cost_above_any, rows_above, seen_above};
+use plan_tree::{Kids, Node, Plan, cost_above_any, rows_above, seen_above};
 use query_core::Query;
 use request_props::Props;
 use std::alloc::{AllocError, Global};
@@ -32,11 +32,11 @@ pub fn push_plan(
         (AddsPlan query.now indent.now plan.now text.old.items text.new.items) }
 {
     match plan {
-        Plan::Leaf(node) => { push_node(alloc, query, props, indent, *node, Below::Nothing, text) }
+        Plan::Leaf(node) => { push_node(alloc, query, props, indent, *node, Kids::Nothing, text) }
         Plan::Over(node, kid) => {
             let deeper = format!(in alloc; "{indent}  ")?;
             let only = push_plan(alloc, query, props, &deeper, kid, text)?;
-            push_node(alloc, query, props, indent, *node, Below::One(only), text)
+            push_node(alloc, query, props, indent, *node, Kids::One(only), text)
         }
         Plan::Two(node, left, right) => {
             let deeper = format!(in alloc; "{indent}  ")?;
@@ -48,7 +48,7 @@ pub fn push_plan(
                 props,
                 indent,
                 *node,
-                Below::Two(first, second),
+                Kids::Two(first, second),
                 text,
             )
         }
@@ -62,7 +62,7 @@ fn push_node(
     props: &Props,
     indent: &str,
     node: Node,
-    below: Below,
+    below: Kids,
     text: &mut Vec<u8>,
 ) -> Result<Kid, AllocError>
     requires { IsProps query.now props.now }
@@ -79,7 +79,7 @@ fn push_node(
 
 // What the node does; a number that no node has counts as that of a gather.
 fn kind_of(node: Node) -> NodeKind
-    ensures { (kind : Kind) → IsNode node kind → result ≡ kind }
+    ensures { (kind : AnyNodeKind) → IsNode node kind → result ≡ kind }
 {
     match node.kind() {
         Some(kind) => kind,
@@ -94,7 +94,7 @@ fn node_line(
     props: &Props,
     indent: &str,
     node: Node,
-    below: Below,
+    below: Kids,
 ) -> Result<String, AllocError>
     requires { IsProps query.now props.now }
     ensures { IfOk result (λ line. IsNodeLine query.now indent.now node below (string_bytes line)) }
@@ -111,7 +111,7 @@ fn kind_line(
     props: &Props,
     indent: &str,
     kind: NodeKind,
-    below: Below,
+    below: Kids,
 ) -> Result<String, AllocError>
     requires { IsProps query.now props.now }
     ensures { IfOk result (λ line.

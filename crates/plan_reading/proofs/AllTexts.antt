@@ -21,7 +21,8 @@ use Rattle.plan_check.specs.Nodes.{IsEnforcerOf}
 use Rattle.plan_reading.specs.Named.{named_text, HasForm, HasTable, IsOperatorOf}
 use Rattle.plan_reading.specs.NodeOver.{number_in}
 use Rattle.plan_reading.specs.Operators.{unplaced}
-use Rattle.plan_reading.specs.Texts.{IsNodeText, IsNodeTexts, Adds, IsOfAny, IsOfEnforcer, IsOfOperator, IsOfNumbers}
+use Rattle.plan_reading.specs.Texts.{IsNodeText, IsNodeTexts, AddsNodeTexts, IsOfAny, IsOfEnforcer, IsOfOperator}
+use Rattle.plan_reading.specs.Texts.{IsOfNumbers}
 use Rattle.plan_reading.specs.Texts.{IsOfTable, IsOfTables, index_numbers, moves}
 use Rattle.plan_reading.specs.declared.named.Named.{Named}
 use Rattle.plan_reading.specs.declared.named.Named.TheVariants as named
@@ -44,7 +45,7 @@ module _ (q : Query) where
 
   -- no node that is wanted has a form, and nothing is added
   pub adds_none : (IsWanted : Named → Type 0) (list : List NodeText)
-      → ((node : Named) → IsWanted node → HasForm q node → ⊥) → Adds q IsWanted list list
+      → ((node : Named) → IsWanted node → HasForm q node → ⊥) → AddsNodeTexts q IsWanted list list
   adds_none IsWanted list none = record {
     texts = λ all. all;
     kept = λ e there. there;
@@ -54,7 +55,7 @@ module _ (q : Query) where
   -- the one node that is wanted is added
   pub adds_one : (IsWanted : Named → Type 0) (list : List NodeText) (text : List ℕ) (own : Named) → HasForm q own
       → text ≡ named_text q own → ((node : Named) → IsWanted node → node ≡ own)
-      → Adds q IsWanted list (list ++ entry text own ∷ [])
+      → AddsNodeTexts q IsWanted list (list ++ entry text own ∷ [])
   adds_one IsWanted list text own form is only = record {
     texts = λ all. All-append (IsNodeText q) list (entry text own ∷ []) all
         (All-cons (IsNodeText q) (entry text own) [] (record { form = form; text = is }) (All-nil (IsNodeText q)));
@@ -67,8 +68,8 @@ module _ (q : Query) where
   }
 
   -- one step after the other
-  pub adds_both : (A B : Named → Type 0) (x y z : List NodeText) → Adds q A x y → Adds q B y z
-      → Adds q (λ node. A node ⊎ B node) x z
+  pub adds_both : (A B : Named → Type 0) (x y z : List NodeText) → AddsNodeTexts q A x y → AddsNodeTexts q B y z
+      → AddsNodeTexts q (λ node. A node ⊎ B node) x z
   adds_both A B x y z first second = record {
     texts = λ all. second.texts (first.texts all);
     kept = λ e there. second.kept e (first.kept e there);
@@ -78,20 +79,21 @@ module _ (q : Query) where
     ];
   }
 
-  pub adds_three : (A B C : Named → Type 0) (w x y z : List NodeText) → Adds q A w x → Adds q B x y → Adds q C y z
-      → Adds q (λ node. A node ⊎ B node ⊎ C node) w z
+  pub adds_three : (A B C : Named → Type 0) (w x y z : List NodeText) → AddsNodeTexts q A w x → AddsNodeTexts q B x y
+      → AddsNodeTexts q C y z
+      → AddsNodeTexts q (λ node. A node ⊎ B node ⊎ C node) w z
   adds_three A B C w x y z first second third =
       adds_both A (λ node. B node ⊎ C node) w x z first (adds_both B C x y z second third)
 
   -- of no numbers yet, and of one number more
   pub adds_start : (Fact : ℕ → Named → Type 0) (list : List NodeText)
-      → Adds q (λ node. (k : ℕ) × (k < 0) × Fact k node) list list
+      → AddsNodeTexts q (λ node. (k : ℕ) × (k < 0) × Fact k node) list list
   adds_start Fact list = adds_none (λ node. (k : ℕ) × (k < 0) × Fact k node) list
       (λ node wanted form. let below = wanted.1 in omega (arith, below))
 
   pub adds_next : (Fact : ℕ → Named → Type 0) (n : ℕ) (x y z : List NodeText)
-      → Adds q (λ node. (k : ℕ) × (k < n) × Fact k node) x y → Adds q (Fact n) y z
-      → Adds q (λ node. (k : ℕ) × (k < n + 1) × Fact k node) x z
+      → AddsNodeTexts q (λ node. (k : ℕ) × (k < n) × Fact k node) x y → AddsNodeTexts q (Fact n) y z
+      → AddsNodeTexts q (λ node. (k : ℕ) × (k < n + 1) × Fact k node) x z
   adds_next Fact n x y z first second = record {
     texts = λ all. second.texts (first.texts all);
     kept = λ e there. second.kept e (first.kept e there);
@@ -105,8 +107,9 @@ module _ (q : Query) where
   }
 
   -- those that are wanted of what was added
-  pub adds_for : (A B : Named → Type 0) (x y : List NodeText) → ((node : Named) → B node → A node) → Adds q A x y
-      → Adds q B x y
+  pub adds_for : (A B : Named → Type 0) (x y : List NodeText) → ((node : Named) → B node → A node)
+      → AddsNodeTexts q A x y
+      → AddsNodeTexts q B x y
   adds_for A B x y goes adds = record {
     texts = adds.texts;
     kept = adds.kept;
@@ -114,7 +117,8 @@ module _ (q : Query) where
   }
 
   pub adds_fewer : (Fact : ℕ → Named → Type 0) (n m : ℕ) (x y : List NodeText) → m ≤ n
-      → Adds q (λ node. (k : ℕ) × (k < n) × Fact k node) x y → Adds q (λ node. (k : ℕ) × (k < m) × Fact k node) x y
+      → AddsNodeTexts q (λ node. (k : ℕ) × (k < n) × Fact k node) x y
+      → AddsNodeTexts q (λ node. (k : ℕ) × (k < m) × Fact k node) x y
   adds_fewer Fact n m x y most =
       adds_for (λ node. (k : ℕ) × (k < n) × Fact k node) (λ node. (k : ℕ) × (k < m) × Fact k node) x y
       (λ node wanted. let below = wanted.1 in (wanted.0, omega (arith, below, most), wanted.2))
@@ -127,15 +131,16 @@ module _ (q : Query) where
     IsOfPlace k node = (x : X) × (get_or list k x ≡ x) × Fact x node
 
     pub place_next : (n : ℕ) (other : X) (x y z : List NodeText) → n < length list
-        → Adds q (λ node. (k : ℕ) × (k < n) × IsOfPlace k node) x y → Adds q (Fact (get_or list n other)) y z
-        → Adds q (λ node. (k : ℕ) × (k < n + 1) × IsOfPlace k node) x z
+        → AddsNodeTexts q (λ node. (k : ℕ) × (k < n) × IsOfPlace k node) x y
+        → AddsNodeTexts q (Fact (get_or list n other)) y z
+        → AddsNodeTexts q (λ node. (k : ℕ) × (k < n + 1) × IsOfPlace k node) x z
     place_next n other x y z below first second =
         adds_next IsOfPlace n x y z first
         (adds_for (Fact (get_or list n other)) (IsOfPlace n) y z
         (λ node wanted. subst (λ o. Fact o node) (sym wanted.1 ∙ got_same list n wanted.0 other below) wanted.2) second)
 
     pub places_all : (n : ℕ) (x y : List NodeText) → length list ≤ n
-        → Adds q (λ node. (k : ℕ) × (k < n) × IsOfPlace k node) x y → Adds q (IsOfAny Fact list) x y
+        → AddsNodeTexts q (λ node. (k : ℕ) × (k < n) × IsOfPlace k node) x y → AddsNodeTexts q (IsOfAny Fact list) x y
     places_all n x y most =
         adds_for (λ node. (k : ℕ) × (k < n) × IsOfPlace k node) (IsOfAny Fact list) x y
         (λ node wanted. let below = wanted.1.1 in
@@ -193,7 +198,7 @@ module _ (q : Query) where
     all_wanted (named.Enforcer e) form = enforcer_wanted e form
 
     -- so a list that was begun with none, and to which all of these were added, is whole
-    pub are_all : (start list : List NodeText) → start ≡ [] → Adds q IsOfSome start list → IsNodeTexts q list
+    pub are_all : (start list : List NodeText) → start ≡ [] → AddsNodeTexts q IsOfSome start list → IsNodeTexts q list
     are_all start list none adds e = (
       λ there. All-contains (IsNodeText q) list e
           (adds.texts (subst (All (IsNodeText q)) (sym none) (All-nil (IsNodeText q)))) there,

@@ -30,7 +30,7 @@ abbrev pub HasText : Query → List NodeText → Named → Type 0
 HasText q list node = Contains list (record { text = named_text q node; node = node })
 
 -- texts of nodes were added, and those of all nodes that are wanted are there now
-pub record Adds (q : Query) (IsWanted : Named → Type 0) (before after : List NodeText) : Type 0 where
+pub record AddsNodeTexts (q : Query) (IsWanted : Named → Type 0) (before after : List NodeText) : Type 0 where
   pub texts : All (IsNodeText q) before → All (IsNodeText q) after
   pub kept : (entry : NodeText) → Contains before entry → Contains after entry
   pub added : (node : Named) → IsWanted node → HasForm q node → HasText q after node

@@ -8,13 +8,13 @@ ghost use Rattle.xform_rules.specs.Closure.{IsMember};
 ghost use Rattle.plan_space.specs.Nodes.{Tree};
 ghost use Rattle.plan_space.specs.Valid.{IsValid};
 ghost use Rattle.plan_lines.specs.Text.{plan_section};
-ghost use Rattle.plan_reading.specs.declared.named.Named.{Named as Name};
+ghost use Rattle.plan_reading.specs.declared.named.Named.{Named as AnyNamed};
 ghost use Rattle.plan_reading.specs.Named.{named_text, HasForm};
 ghost use Rattle.plan_reading.specs.Outline.{IsPlanTree};
 ghost use Rattle.plan_reading.specs.Formed.{IsFormed, HasFormFault};
 ghost use Rattle.plan_reading.specs.Laws.{PlansAreRead, LinesAreSpelled, OutlinesAreOne};
 ghost use Rattle.plan_reading.specs.Laws.{NodesAreMeant, NamesAreKept, ModesAreSmall};
-ghost use Rattle.plan_reading.specs.declared.line.NodeLine.{NodeLine as AnyLine};
+ghost use Rattle.plan_reading.specs.declared.line.NodeLine.{NodeLine as AnyNodeLine};
 
 use query_core::{candidates_are_known, sides_are_known};
 use request_props::listing_is_one;
@@ -22,7 +22,7 @@ use xform_rules::members_are_candidates;
 
 /// No two nodes that the query can name have one text.
 pub fn texts_are_one()
-    ensures { (q : Query) (a b : Name) → HasForm q a → HasForm q b →
+    ensures { (q : Query) (a b : AnyNamed) → HasForm q a → HasForm q b →
         named_text q a ≡ named_text q b → a ≡ b }
 {
     listing_is_one();
@@ -43,11 +43,11 @@ pub fn plans_are_one()
 
 /// A text is read in one way: as these lines, or with its first fault.
 pub fn readings_are_one()
-    ensures formed { (q : Query) (text : List ℕ) (c d : ℕ) (xs ys : List AnyLine) →
+    ensures formed { (q : Query) (text : List ℕ) (c d : ℕ) (xs ys : List AnyNodeLine) →
         IsFormed q text c xs → IsFormed q text d ys → (c ≡ d) × (xs ≡ ys) }
     ensures fault { (q : Query) (text : List ℕ) (line other : ℕ) →
         HasFormFault q text line → HasFormFault q text other → line ≡ other }
-    ensures apart { (q : Query) (text : List ℕ) (c : ℕ) (xs : List AnyLine) (line : ℕ) →
+    ensures apart { (q : Query) (text : List ℕ) (c : ℕ) (xs : List AnyNodeLine) (line : ℕ) →
         IsFormed q text c xs → HasFormFault q text line → ⊥ }
 {
     texts_are_one();

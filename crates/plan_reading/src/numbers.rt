@@ -2,7 +2,7 @@
 #![tactic(auto)]
 
 ghost use Rattle.std.specs.Prelude.{◌≡◌, ℕ, ◌<◌, ◌^◌, decimal, MatchOption};
-ghost use Rattle.plan_reading.specs.Reading.{is_plain as is_plain_word};
+ghost use Rattle.plan_reading.specs.Reading.{is_plain as the_is_plain};
 
 use std::str;
 
@@ -13,12 +13,12 @@ pub fn number(digits: &[u8]) -> Option<u64>
         (λ n. (digits.now ≡ decimal n) × (n < 2 ^ 64)) }
 {
     match str::from_utf8(digits) {
-        Ok(word) => number_of(word),
+        Ok(word) => plain_number(word),
         Err(_) => None,
     }
 }
 
-fn number_of(word: &str) -> Option<u64>
+fn plain_number(word: &str) -> Option<u64>
     ensures { MatchOption result
         ((n : ℕ) → n < 2 ^ 64 → word.now ≡ decimal n → ⊥)
         (λ n. (word.now ≡ decimal n) × (n < 2 ^ 64)) }
@@ -29,7 +29,7 @@ fn number_of(word: &str) -> Option<u64>
 
 // Whether no `+` and no zero stands before a number.
 fn is_plain(word: &str) -> bool
-    ensures { result ≡ is_plain_word word.now }
+    ensures { result ≡ the_is_plain word.now }
 {
     !word.starts_with('+') && (word.len() == 1 || !word.starts_with('0'))
 }

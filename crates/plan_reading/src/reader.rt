@@ -1,7 +1,8 @@
 //! Reads the line of a node.
 #![tactic(auto)]
 
-ghost use Rattle.std.specs.Prelude.{◌≡◌, ◌≢◌, ◌++◌, ℕ, ◌<◌, ◌≤◌, ◌^◌, List, length, codes, decimal, MatchOption, IsTrue};
+ghost use Rattle.std.specs.Prelude.{◌≡◌, ◌≢◌, ◌++◌, ℕ, ◌<◌, ◌≤◌, ◌^◌, List, length, codes, decimal, MatchOption};
+ghost use Rattle.std.specs.Prelude.{IsTrue};
 ghost use Rattle.std.specs.List.{prefix_len, list_all};
 ghost use Rattle.std.specs.Char.{is_ascii_digit};
 ghost use Rattle.query_core.specs.declared.query.Query.{Query};
@@ -9,7 +10,7 @@ ghost use Rattle.plan_lines.specs.Text.{indent};
 ghost use Rattle.plan_reading.specs.Reading.{is_space, is_bare, ArePartsOf, IsLine, NoLine};
 ghost use Rattle.plan_reading.specs.Texts.{IsNodeTexts};
 ghost use Rattle.plan_reading.specs.Named.{named_text, HasForm};
-ghost use Rattle.plan_reading.specs.declared.named.Named.{Named as Name};
+ghost use Rattle.plan_reading.specs.declared.named.Named.{Named as AnyNamed};
 
 use crate::line::NodeLine;
 use crate::named::Named;
@@ -125,7 +126,7 @@ fn level_of(spaces: &[u8]) -> Option<u32>
 /// The node of this text.
 fn node_named(texts: &[NodeText], text: &[u8]) -> Option<Named>
     ensures { (q : Query) → IsNodeTexts q texts.now → MatchOption result
-        ((n : Name) → HasForm q n → text.now ≡ named_text q n → ⊥)
+        ((n : AnyNamed) → HasForm q n → text.now ≡ named_text q n → ⊥)
         (λ n. HasForm q n × (text.now ≡ named_text q n)) }
 {
     for entry in texts {

@@ -1,12 +1,14 @@
 //! Reads the lines of a text.
 #![tactic(auto)]
 
-ghost use Rattle.std.specs.Prelude.{◌≡◌, ◌≢◌, ◌++◌, ℕ, ◌<◌, ◌≤◌, ◌^◌, List, length, MatchOption, IfSome, IfOk, IfErr, IsTrue, ◌↔◌};
+ghost use Rattle.std.specs.Prelude.{◌≡◌, ◌≢◌, ◌++◌, ℕ, ◌<◌, ◌≤◌, ◌^◌, List, length, MatchOption, IfSome, IfOk, IfErr};
+ghost use Rattle.std.specs.Prelude.{IsTrue, ◌↔◌};
 ghost use Rattle.query_core.specs.declared.query.Query.{Query as AnyQuery};
 ghost use Rattle.request_props.specs.Numbered.{IsProps};
-ghost use Rattle.plan_lines.specs.Text.{output_line as line_of_output};
+ghost use Rattle.plan_lines.specs.Text.{output_line as the_output_line};
 ghost use Rattle.plan_reading.specs.Texts.{IsNodeTexts};
-ghost use Rattle.plan_reading.specs.Formed.{most_bytes, HasCost, LacksCost, IsNext, HasNoNext, IsRead, AreLines, HasNodeFault, MayFollow};
+ghost use Rattle.plan_reading.specs.Formed.{most_bytes, HasCost, LacksCost, IsNext, HasNoNext, IsRead, AreLines};
+ghost use Rattle.plan_reading.specs.Formed.{HasNodeFault, MayFollow};
 
 use crate::line::NodeLine;
 use crate::line_ends::cut_line;
@@ -93,7 +95,7 @@ fn read_by(
     text: &[u8],
 ) -> Result<Lines, LineFault>
     requires short { length text.now ≤ most_bytes }
-    ensures { (q : AnyQuery) → IsNodeTexts q texts.now → output.now ≡ line_of_output q →
+    ensures { (q : AnyQuery) → IsNodeTexts q texts.now → output.now ≡ the_output_line q →
         IsRead q text.now result }
 {
     let Some(first) = first_line(text) else {

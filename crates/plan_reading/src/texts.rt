@@ -3,9 +3,9 @@
 
 ghost use Rattle.std.specs.Prelude.{◌≡◌, IfOk, OnOk, length};
 ghost use Rattle.request_props.specs.Numbered.{IsProps};
-ghost use Rattle.plan_reading.specs.Texts.{IsNodeTexts, Adds, IsOfKind, IsOfAny, IsOfEnforcer, IsOfNumbers};
+ghost use Rattle.plan_reading.specs.Texts.{IsNodeTexts, AddsNodeTexts, IsOfKind, IsOfAny, IsOfEnforcer, IsOfNumbers};
 ghost use Rattle.plan_reading.specs.Texts.{IsOfOperator, IsOfIndexes, IsOfTables, index_numbers};
-ghost use Rattle.plan_reading.specs.Texts.{moves as all_moves, enforcers_by as all_enforcers_by};
+ghost use Rattle.plan_reading.specs.Texts.{moves as the_moves, enforcers_by as the_enforcers_by};
 
 use crate::named::{Named, has_form};
 use crate::operators::{direct_operators, index_operators};
@@ -47,14 +47,14 @@ pub fn node_texts(alloc: Global, query: &Query, props: &Props) -> Result<Vec<Nod
 
 // Those without a number.
 fn moves() -> [Enforcer; 2]
-    ensures { result ≡ all_moves }
+    ensures { result ≡ the_moves }
 {
     [Enforcer::Gather, Enforcer::Broadcast]
 }
 
 // Those by the order or the list of this number.
 fn enforcers_by(number: u32) -> [Enforcer; 3]
-    ensures { result ≡ all_enforcers_by number }
+    ensures { result ≡ the_enforcers_by number }
 {
     [
         Enforcer::Sort(number),
@@ -70,7 +70,7 @@ fn push_numbers(
     texts: &mut Vec<NodeText>,
 ) -> Result<(), AllocError>
     requires { IsProps query.now props.now }
-    ensures { OnOk result (Adds query.now (IsOfNumbers 61) texts.old.items texts.new.items) }
+    ensures { OnOk result (AddsNodeTexts query.now (IsOfNumbers 61) texts.old.items texts.new.items) }
 {
     for number in 0..NUMBERS {
         push_enforcers(alloc, query, props, &enforcers_by(number), texts)?;
@@ -86,7 +86,7 @@ fn push_enforcers(
     texts: &mut Vec<NodeText>,
 ) -> Result<(), AllocError>
     requires { IsProps query.now props.now }
-    ensures { OnOk result (Adds query.now (IsOfAny IsOfEnforcer enforcers.now)
+    ensures { OnOk result (AddsNodeTexts query.now (IsOfAny IsOfEnforcer enforcers.now)
         texts.old.items texts.new.items) }
 {
     for enforcer in enforcers {
@@ -105,7 +105,7 @@ fn push_tables(
 ) -> Result<(), AllocError>
     requires { IsProps query.now props.now }
     ensures { OnOk result
-        (Adds query.now (IsOfTables (length query.now.tables)) texts.old.items texts.new.items) }
+        (AddsNodeTexts query.now (IsOfTables (length query.now.tables)) texts.old.items texts.new.items) }
 {
     let count = query.tables.len() as u32;
     for table in 0..count {
@@ -124,7 +124,7 @@ fn push_indexes(
 ) -> Result<(), AllocError>
     requires { IsProps query.now props.now }
     ensures { OnOk result
-        (Adds query.now (IsOfIndexes table index_numbers) texts.old.items texts.new.items) }
+        (AddsNodeTexts query.now (IsOfIndexes table index_numbers) texts.old.items texts.new.items) }
 {
     for index in 0..INDEXES {
         push_operators(alloc, query, props, table, &index_operators(index), texts)?;
@@ -142,7 +142,7 @@ fn push_operators(
     texts: &mut Vec<NodeText>,
 ) -> Result<(), AllocError>
     requires { IsProps query.now props.now }
-    ensures { OnOk result (Adds query.now (IsOfAny (IsOfOperator table) operators.now)
+    ensures { OnOk result (AddsNodeTexts query.now (IsOfAny (IsOfOperator table) operators.now)
         texts.old.items texts.new.items) }
 {
     for operator in operators {
@@ -162,7 +162,7 @@ fn push_operator(
 ) -> Result<(), AllocError>
     requires { IsProps query.now props.now }
     ensures { OnOk result
-        (Adds query.now (IsOfOperator table operator) texts.old.items texts.new.items) }
+        (AddsNodeTexts query.now (IsOfOperator table operator) texts.old.items texts.new.items) }
 {
     let expr = PhysicalExpr {
         group: KeyParts::Get(table),
@@ -183,7 +183,7 @@ fn push_kind(
     texts: &mut Vec<NodeText>,
 ) -> Result<(), AllocError>
     requires { IsProps query.now props.now }
-    ensures { OnOk result (Adds query.now (IsOfKind kind) texts.old.items texts.new.items) }
+    ensures { OnOk result (AddsNodeTexts query.now (IsOfKind kind) texts.old.items texts.new.items) }
 {
     let node = Named::of(kind);
     if has_form(query, props, node) {

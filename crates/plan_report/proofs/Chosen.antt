@@ -24,9 +24,9 @@ use Rattle.best_answers.specs.Answers.{answer_of}
 use Rattle.best_answers.specs.Best.{IsLeastIn, IsBest}
 use Rattle.best_answers.specs.Laws.{BestIsLeast, RootsHaveNumbers}
 use Rattle.best_answers.specs.declared.best.Best.{Best}
-use Rattle.plan_report.specs.declared.links.Linked.{Linked}
-use Rattle.plan_report.specs.declared.links.Links.TheVariants.{Zero, One, Two}
-use Rattle.plan_report.specs.Links.{IsChosen, IsLeastAt, IsLeastFor, IsOver}
+use Rattle.plan_report.specs.declared.plans_asked.PlanAsked.{PlanAsked}
+use Rattle.plan_report.specs.declared.plans_asked.PlansAsked.TheVariants.{Zero, One, Two}
+use Rattle.plan_report.specs.PlansAsked.{IsChosen, IsLeastAt, IsLeastFor, IsOver}
 
 -- ---- what is told
 
@@ -50,7 +50,7 @@ none_told (Some best) told is costs = let never : None ≡ Some best.cost = sym 
 
 -- ---- the least plan
 
-module _ (q : Query) (at : Linked) (fits : Fits q at.group at.wanted) where
+module _ (q : Query) (at : PlanAsked) (fits : Fits q at.group at.wanted) where
   chosen_of : (props : Props) → IsProps q props → RootsHaveNumbers q → (best : Best) (plan : Option Tree)
       → IsLeastIn q at.group at.wanted all_nodes plan
       → IsAnswer (IsMember q) q at.group at.wanted plan → Some best ≡ option_map (answer_of q) plan → (found : Tree)
@@ -93,7 +93,7 @@ module _ (q : Query) (at : Linked) (fits : Fits q at.group at.wanted) where
 -- ---- the plan that is made
 
 -- the root over a plan that is spelled is the least plan
-pub record IsMadeOverOne (q : Query) (at : Linked) (node : Node) (plan : Plan) : Type 0 where
+pub record IsMadeOverOne (q : Query) (at : PlanAsked) (node : Node) (plan : Plan) : Type 0 where
   pub root : NodeKind
   pub kid : Tree
   pub is_node : IsNode node root
@@ -101,7 +101,7 @@ pub record IsMadeOverOne (q : Query) (at : Linked) (node : Node) (plan : Plan) :
   pub least : IsLeastAt q at (over root kid)
 
 -- so is the root over two plans
-pub record IsMadeOverTwo (q : Query) (at : Linked) (node : Node) (first second : Plan) : Type 0 where
+pub record IsMadeOverTwo (q : Query) (at : PlanAsked) (node : Node) (first second : Plan) : Type 0 where
   pub root : NodeKind
   pub left : Tree
   pub right : Tree
@@ -112,11 +112,11 @@ pub record IsMadeOverTwo (q : Query) (at : Linked) (node : Node) (first second :
 
 module _ (q : Query) (one : (group : KeyParts) (wanted : Request) (plan other : Tree)
     → IsLeast (IsMember q) q group wanted plan → IsLeast (IsMember q) q group wanted other → other ≡ plan)
-    (at : Linked) (node : Node) (plan : Tree) (chosen : IsChosen q at node plan) where
+    (at : PlanAsked) (node : Node) (plan : Tree) (chosen : IsChosen q at node plan) where
   pub made_zero : IsOver q Zero plan → IsLeastAt q at (leaf (root_node plan))
   made_zero is = subst (IsLeastAt q at) is chosen.least
 
-  pub made_one : (below : Linked) (made : Plan) → IsOver q (One below) plan → IsLeastFor q below made
+  pub made_one : (below : PlanAsked) (made : Plan) → IsOver q (One below) plan → IsLeastFor q below made
       → IsMadeOverOne q at node made
   made_one below made (kid, least, is) (tree, spells, least_too) =
       let same : tree ≡ kid = one below.group below.wanted kid tree least least_too in
@@ -128,7 +128,7 @@ module _ (q : Query) (one : (group : KeyParts) (wanted : Request) (plan other : 
         least = subst (IsLeastAt q at) is chosen.least;
       }
 
-  pub made_two : (first second : Linked) (made made_too : Plan) → IsOver q (Two first second) plan
+  pub made_two : (first second : PlanAsked) (made made_too : Plan) → IsOver q (Two first second) plan
       → IsLeastFor q first made → IsLeastFor q second made_too
       → IsMadeOverTwo q at node made made_too
   made_two first second made made_too (left, right, least, least_too, is) (tree, spells, tree_least)

@@ -1,4 +1,4 @@
 pub mod Searched
 pub mod Rooted
-pub mod Linking
+pub mod PlansAsked
 pub mod Chosen

@@ -18,11 +18,11 @@ use Rattle.plan_tree.specs.declared.node.Node.{Node}
 use Rattle.plan_tree.specs.Nodes.{IsNode}
 use Rattle.plan_tree.specs.Seen.{root_node}
 use Rattle.best_answers.proofs.Roots.{root_over}
-use Rattle.plan_report.specs.declared.links.Linked.{Linked}
-use Rattle.plan_report.specs.Links.{IsChosen, IsRooted}
+use Rattle.plan_report.specs.declared.plans_asked.PlanAsked.{PlanAsked}
+use Rattle.plan_report.specs.PlansAsked.{IsChosen, IsRooted}
 
 -- an expression in a mode over least plans of what its line asks
-pub record IsNativeRoot (q : Query) (at : Linked) (e : PhysicalExpr) (mode : ℕ) (plan : Tree) : Type 0 where
+pub record IsNativeRoot (q : Query) (at : PlanAsked) (e : PhysicalExpr) (mode : ℕ) (plan : Tree) : Type 0 where
   pub line : Line
   pub kids : List Tree
   pub member : IsMember q (expr_of e)
@@ -32,7 +32,7 @@ pub record IsNativeRoot (q : Query) (at : Linked) (e : PhysicalExpr) (mode : ℕ
   pub is : IsNodeOver (nodes.Native e mode) kids plan
 
 -- an enforcer for the request over a least plan of what it asks
-pub record IsEnforcedRoot (q : Query) (at : Linked) (enforcer : Enforcer) (plan : Tree) : Type 0 where
+pub record IsEnforcedRoot (q : Query) (at : PlanAsked) (enforcer : Enforcer) (plan : Tree) : Type 0 where
   pub e : EnforcedBy
   pub kid : Tree
   pub among : Among e (enforcers_of at.wanted)
@@ -40,7 +40,7 @@ pub record IsEnforcedRoot (q : Query) (at : Linked) (enforcer : Enforcer) (plan 
   pub least : IsLeast (IsMember q) q at.group e.below kid
   pub is : plan ≡ over (nodes.Enforcer e.node) kid
 
-module _ (q : Query) (at : Linked) (plan : Tree) where
+module _ (q : Query) (at : PlanAsked) (plan : Tree) where
   native_by : (e : PhysicalExpr) (mode : ℕ) → IsChoice (IsMember q) q at.group at.wanted plan
       → root_node plan ≡ nodes.Native e mode → IsNativeRoot q at e mode plan
   native_by e mode (enforced_choice f kid among least is) root =

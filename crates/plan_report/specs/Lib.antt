@@ -1,1 +1,1 @@
-pub mod Links
+pub mod PlansAsked

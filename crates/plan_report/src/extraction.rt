@@ -11,11 +11,11 @@ ghost use Rattle.plan_tree.specs.Found.{IsFound};
 ghost use Rattle.best_answers.specs.Best.{IsBest};
 ghost use Rattle.best_answers.specs.Nodes.{all_nodes};
 ghost use Rattle.goal_space.specs.Answers.{AreAnswers, Tells, words_told};
-ghost use Rattle.goal_space.specs.declared.goals.GoalKind.{GoalKind as Goal};
+ghost use Rattle.goal_space.specs.declared.goals.GoalKind.{GoalKind as AnyGoalKind};
 ghost use Rattle.goal_space.specs.Goals.{IsGoal};
-ghost use Rattle.plan_report.specs.Links.{IsLeastAt, IsLeastFor, goal_of};
+ghost use Rattle.plan_report.specs.PlansAsked.{IsLeastAt, IsLeastFor, goal_of};
 
-use crate::links::{Linked, Links, links_at};
+use crate::plans_asked::{PlanAsked, PlansAsked, plans_asked_at};
 use best_answers::{Best, answers_are_best, best_is_least};
 use goal_space::{GoalKind, goal_kinds_are_one, goals_are_known};
 use plan_space::{least_is_one, root_request_is_collected};
@@ -26,7 +26,7 @@ use std::alloc::{AllocError, Global};
 
 /// What an extraction reads.
 #[derive(Clone, Copy)]
-struct Source<'a> {
+struct Extraction<'a> {
     query: &'a Query,
     props: &'a Props,
     answers: &'a [Answered],
@@ -50,18 +50,18 @@ pub fn extract(
     best_is_least();
     answers_are_best();
     least_is_one();
-    let source = Source {
+    let extraction = Extraction {
         query,
         props,
         answers: answers.list.as_slice(),
     };
-    let root = Linked {
+    let root = PlanAsked {
         group: query.group(query.root()),
         wanted: props.root,
     };
-    match best_at(source, root) {
+    match best_at(extraction, root) {
         Some(best) => Ok(Found::Least {
-            plan: plan_at(alloc, source, root)?,
+            plan: plan_at(alloc, extraction, root)?,
             cost: best.cost,
         }),
         None => Ok(Found::NoPlan),
@@ -70,29 +70,29 @@ pub fn extract(
 
 // The least plan of the group for the request: the node of its answer, over the plans that it is
 // linked to.
-fn plan_at(alloc: Global, source: Source<'_>, at: Linked) -> Result<Plan, AllocError>
-    requires props { IsProps source.query.now source.props.now }
-    requires answers { AreAnswers source.query.now source.answers.now }
-    requires goal { IsGoal source.query.now (goal_of at) }
-    requires there { (plan : Tree) × IsLeastAt source.query.now at plan }
-    ensures { IfOk result (IsLeastFor source.entry.query.now at) }
+fn plan_at(alloc: Global, extraction: Extraction<'_>, at: PlanAsked) -> Result<Plan, AllocError>
+    requires props { IsProps extraction.query.now extraction.props.now }
+    requires answers { AreAnswers extraction.query.now extraction.answers.now }
+    requires goal { IsGoal extraction.query.now (goal_of at) }
+    requires there { (plan : Tree) × IsLeastAt extraction.query.now at plan }
+    ensures { IfOk result (IsLeastFor extraction.entry.query.now at) }
 {
     // For the proof: the answer is that of the one least plan, which is a choice.
     goals_are_known();
     best_is_least();
     answers_are_best();
     least_is_one();
-    match best_at(source, at) {
-        Some(best) => match links_at(source.query, source.props, at, best.node) {
-            Links::Zero => Ok(Plan::Leaf(best.node)),
-            Links::One(below) => Ok(Plan::Over(
+    match best_at(extraction, at) {
+        Some(best) => match plans_asked_at(extraction.query, extraction.props, at, best.node) {
+            PlansAsked::Zero => Ok(Plan::Leaf(best.node)),
+            PlansAsked::One(below) => Ok(Plan::Over(
                 best.node,
-                Box::new(alloc, plan_at(alloc, source, below)?)?,
+                Box::new(alloc, plan_at(alloc, extraction, below)?)?,
             )),
-            Links::Two(left, right) => Ok(Plan::Two(
+            PlansAsked::Two(left, right) => Ok(Plan::Two(
                 best.node,
-                Box::new(alloc, plan_at(alloc, source, left)?)?,
-                Box::new(alloc, plan_at(alloc, source, right)?)?,
+                Box::new(alloc, plan_at(alloc, extraction, left)?)?,
+                Box::new(alloc, plan_at(alloc, extraction, right)?)?,
             )),
         },
         None => unreachable!(),
@@ -100,17 +100,17 @@ fn plan_at(alloc: Global, source: Source<'_>, at: Linked) -> Result<Plan, AllocE
 }
 
 // The answer to the goal of the group for the request.
-fn best_at(source: Source<'_>, at: Linked) -> Option<Best>
-    requires props { IsProps source.query.now source.props.now }
-    requires answers { AreAnswers source.query.now source.answers.now }
-    requires goal { IsGoal source.query.now (goal_of at) }
-    ensures { IsBest source.entry.query.now at.group at.wanted all_nodes result }
+fn best_at(extraction: Extraction<'_>, at: PlanAsked) -> Option<Best>
+    requires props { IsProps extraction.query.now extraction.props.now }
+    requires answers { AreAnswers extraction.query.now extraction.answers.now }
+    requires goal { IsGoal extraction.query.now (goal_of at) }
+    ensures { IsBest extraction.entry.query.now at.group at.wanted all_nodes result }
 {
     // For the proof: the goal has a word, and no other goal has it.
     goals_are_known();
     goal_kinds_are_one();
     let goal = GoalKind::Opt(at.group, at.wanted).word();
-    best_in(answer_to(source.answers, goal.0))
+    best_in(answer_to(extraction.answers, goal.0))
 }
 
 // The answer to the goal of this word, of answers that ascend by the words of their goals.
@@ -128,7 +128,7 @@ fn answer_to(answers: &[Answered], word: u64) -> Answered
 
 // The answer that is told.
 fn best_in(told: Answered) -> Option<Best>
-    ensures { (q : AnyQuery) (goal : Goal) → (tells : Tells q told goal) → result ≡ tells.answer }
+    ensures { (q : AnyQuery) (goal : AnyGoalKind) → (tells : Tells q told goal) → result ≡ tells.answer }
 {
     match told.cost {
         Some(cost) => Some(Best {

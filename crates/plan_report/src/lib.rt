@@ -2,7 +2,7 @@
 #![tactic(auto)]
 
 mod extraction;
-mod links;
+mod plans_asked;
 
 pub use extraction::extract;
 pub use plan_lines::plan_text;

@@ -15,7 +15,8 @@ use Rattle.plan_tree.specs.Alternatives.{Asks, AreAsked}
 -- the one child, and what is asked of it
 pub asked_one : (q : Query) (alt : Alt) (c : Children) (wishes : List Request) (kid : Key × Request)
     → alt.left ≡ Some kid → alt.right ≡ None
-    → AreAsked q alt (groups_of c) wishes → (g : KeyParts) × (c ≡ One g) × (wishes ≡ kid.1 ∷ []) × keys.Names q kid.0 g
+    → AreAsked q alt (groups_of c) wishes
+    → (g : KeyParts) × (c ≡ One g) × (wishes ≡ kid.1 ∷ []) × keys.NamesGroup q kid.0 g
 asked_one q alt Zero [] kid left right asked = let never : Some kid ≡ None = sym left ∙ asked.0 in cc
 asked_one q alt Zero (wanted ∷ wishes) kid left right asked = absurd asked
 asked_one q alt (One g) [] kid left right asked = absurd asked
@@ -33,7 +34,7 @@ asked_one q alt (Two g h) (wanted ∷ other ∷ third ∷ wishes) kid left right
 pub asked_two : (q : Query) (alt : Alt) (c : Children) (wishes : List Request) (first second : Key × Request)
     → alt.left ≡ Some first → alt.right ≡ Some second
     → AreAsked q alt (groups_of c) wishes → (g h : KeyParts) × (c ≡ Two g h) × (wishes ≡ first.1 ∷ second.1 ∷ [])
-    × keys.Names q first.0 g × keys.Names q second.0 h
+    × keys.NamesGroup q first.0 g × keys.NamesGroup q second.0 h
 asked_two q alt Zero [] first second left right asked = let never : Some first ≡ None = sym left ∙ asked.0 in cc
 asked_two q alt Zero (wanted ∷ wishes) first second left right asked = absurd asked
 asked_two q alt (One g) [] first second left right asked = absurd asked

@@ -25,7 +25,7 @@ use Rattle.plan_tree.specs.declared.node.Node.{Node}
 use Rattle.plan_tree.specs.Nodes as kinds
 use Rattle.plan_tree.specs.Costs.{IsCostAmong}
 use Rattle.plan_search.specs.declared.kept_plans.KeptPlans.{KeptPlans}
-use Rattle.plan_search.specs.declared.choice.PlansBelow.{PlansBelow}
+use Rattle.plan_search.specs.declared.choice.KidPlans.{KidPlans}
 use Rattle.plan_search.specs.declared.choice.Choice.{Choice}
 use Rattle.plan_search.specs.Places.{place_of}
 use Rattle.plan_search.specs.KeptPlans.{IsAnswered, AreAnswered, kept_at, cost_at, IsPlanAt}
@@ -126,7 +126,7 @@ module _ (q : Query) (answers : KeptPlans) (group : KeyParts) (wanted : Request)
       -- the enforcer is offered over the plan for what it asks
       pub enforcer_goes : IsOrder q → ChoicesServe q → (node : Node) → kinds.IsNode node (nodes.Enforcer e.node)
           → (local : ℕ) → IsCostAmong q e.node group wanted local
-          → (below : PlansBelow) (old : Option Choice) → IsPlanAt answers (place_of group e.below) below
+          → (below : KidPlans) (old : Option Choice) → IsPlanAt answers (place_of group e.below) below
           → GoesOverPlace q answers group wanted n old (Some (cheaper_of old (choice_over node local below)))
       enforcer_goes order serve node is_node local cost below old (kept, at, is) =
           let found = some_case q answers group e.below kept below_answered at in

@@ -6,7 +6,7 @@ use Rattle.std.specs.BTreeMap.{Updates}
 use Rattle.std.specs.Cmp.{nat_cmp_is}
 use Rattle.std.specs.declared.cmp.Ordering.TheVariants.{Less, Greater}
 use Rattle.std.proofs.lemmas.Bool.{cases_eq, cases_order}
-use Rattle.query_core.specs.Keys.{key_number, IsGroup, IsInRange}
+use Rattle.query_core.specs.Keys.{key_number, IsGroup, IsGroupInRange}
 use Rattle.query_core.specs.declared.query.Query.{Query}
 use Rattle.query_core.specs.declared.words.KeyParts.{KeyParts}
 use Rattle.query_core.specs.declared.expressions.PhysicalExpr.{PhysicalExpr}
@@ -24,7 +24,7 @@ use Rattle.plan_space.specs.Laws.{SettledIsLeast}
 use Rattle.plan_search.proofs.Answered.{none_case, some_case}
 use Rattle.plan_search.specs.declared.kept_plans.KeptPlans.{KeptPlans}
 use Rattle.plan_search.specs.declared.choice.Choice.{Choice}
-use Rattle.plan_search.specs.declared.native.Native.{Native}
+use Rattle.plan_search.specs.declared.native.NativeNode.{NativeNode}
 use Rattle.plan_search.specs.Places.{DISTS, ORDERS, dist_place, request_place, first_place, place_of}
 use Rattle.plan_search.specs.KeptPlans.{kept_at, IsKept, IsAnswerFor, IsAnswered, answer_at, AreAnswered}
 use Rattle.plan_search.specs.Natives.{AreListedFor, HasMode}
@@ -49,7 +49,8 @@ module _ (q : Query) (answers : KeptPlans) (group : KeyParts) (wanted : Request)
   enforcers_stable best other improves settled e among = enforcer_stable q group e best other improves (settled e among)
 
   -- a mode that the list has is settled
-  settled_at : (list : List Native) (best : Option Tree) (e : PhysicalExpr) (mode : ℕ) → AreSettledIn q wanted list best
+  settled_at : (list : List NativeNode) (best : Option Tree) (e : PhysicalExpr) (mode : ℕ)
+      → AreSettledIn q wanted list best
       → HasMode e mode list
       → IsModeSettled (IsMember q) q wanted e mode best
   settled_at list best e mode settled (p, among, is_expr, is_mode) =
@@ -57,7 +58,7 @@ module _ (q : Query) (answers : KeptPlans) (group : KeyParts) (wanted : Request)
       (subst (λ m. IsModeSettled (IsMember q) q wanted p.expr m best) is_mode (settled p among))
 
   -- once all nodes are offered, the best is the least plan, and where there is none there is no plan
-  pub best_is_answer : (list : List Native) (some all : Option Choice) → SettledIsLeast q → Fits q group wanted
+  pub best_is_answer : (list : List NativeNode) (some all : Option Choice) → SettledIsLeast q → Fits q group wanted
       → AreListedFor q group wanted.dist list
       → GoesOverEnforcers q answers group wanted None some → GoesOverAll q answers group wanted list some all
       → IsBestChoice q answers group wanted all
@@ -128,8 +129,8 @@ request_is_one r s few also is =
     ap (λ d. make d r.order) dist ∙ ap (λ o. make s.dist o) order
 
 module _ (q : Query) (props : Props) (is_props : IsProps q props) (in_range : (g : KeyParts) → IsGroup q g
-    → IsInRange g)
-    (groups_one : (p g : KeyParts) → IsInRange p → IsInRange g → key_number p ≡ key_number g → p ≡ g) where
+    → IsGroupInRange g)
+    (groups_one : (p g : KeyParts) → IsGroupInRange p → IsGroupInRange g → key_number p ≡ key_number g → p ≡ g) where
   -- a place is that of one group and one request
   pub place_is_one : (g h : KeyParts) (r s : Request) → IsGroup q g → IsGroup q h → Fits q g r → Fits q h s
       → place_of g r ≡ place_of h s → (g ≡ h) × (r ≡ s)

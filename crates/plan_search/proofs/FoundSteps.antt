@@ -19,7 +19,7 @@ use Rattle.xform_rules.specs.Closure.{IsMember, root_origin, child_origin, resul
 use Rattle.xform_rules.specs.Closure.{IsClosureOf}
 use Rattle.plan_search.specs.Steps.{AreMembers, Grows, GrowsTo, ContainsWordOf, HasOrigin, HasOrigins, HasResultAt}
 use Rattle.plan_search.specs.Steps.{HasResultsOf, HasResults, HasBoundResults, HasSteps, AreSteps, AreBoundSteps}
-use Rattle.plan_search.specs.Steps.{Covers, AreOthers}
+use Rattle.plan_search.specs.Steps.{AreOfEither, AreOthers}
 use Rattle.plan_search.proofs.Growing.{Stays, grows_on}
 
 -- ---- what is found stays found
@@ -111,7 +111,7 @@ module _ (q : Query) where
   none_done found e member (k, within, is) = absurd (omega (arith, within))
 
   -- a member that was done before has all its steps once those with new members are found
-  more_steps : (words done new xs ys : List ℕ) (e : ExprParts) → Covers words done new → Grows q xs ys
+  more_steps : (words done new xs ys : List ℕ) (e : ExprParts) → AreOfEither words done new → Grows q xs ys
       → HasSteps q done e xs → HasBoundResults q new e ys
       → HasSteps q words e ys
   more_steps words done new xs ys e covers grows steps results = record {

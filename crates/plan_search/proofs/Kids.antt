@@ -24,7 +24,7 @@ use Rattle.plan_space.specs.Choices.{groups_of, AreLeast, native_choice}
 use Rattle.plan_space.specs.Cost.{most_of_all}
 use Rattle.plan_space.specs.Laws.{AsksWhatFits, ChoicesServe, RequestsFit, KeysFall, LeastCostsFit, ChoiceCostsFit}
 use Rattle.plan_search.specs.declared.kept_plans.KeptPlans.{KeptPlans}
-use Rattle.plan_search.specs.declared.native.Native.{Native}
+use Rattle.plan_search.specs.declared.native.NativeNode.{NativeNode}
 use Rattle.plan_tree.specs.declared.alternatives.Alt.{Alt}
 use Rattle.plan_tree.specs.Alternatives.{IsAltBy, IsAltIn}
 use Rattle.plan_search.specs.Places.{place_of, place_at, place_asked}
@@ -57,7 +57,7 @@ pub record IsAsked (q : Query) (answers : KeptPlans) (e : PhysicalExpr) (wanted 
   pub answered : AreAnswered q answers (place_of e.group wanted)
 
 -- it is known of a member in its mode
-pub asked_here : (q : Query) (answers : KeptPlans) (p : Native) (wanted : Request) (alt : Alt) (props : Props)
+pub asked_here : (q : Query) (answers : KeptPlans) (p : NativeNode) (wanted : Request) (alt : Alt) (props : Props)
     → IsProps q props → AreLaws q
     → ((e : ExprParts) → IsMember q e → IsCandidate q e) → IsNative q p.expr.group p → Fits q p.expr.group wanted
     → AreAnswered q answers (place_of p.expr.group wanted) → IsAltIn q p.expr wanted p.mode (Some alt)

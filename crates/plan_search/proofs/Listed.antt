@@ -16,7 +16,7 @@ use Rattle.xform_rules.specs.Closure.{IsMember}
 use Rattle.plan_space.specs.declared.lines.Line.{Line}
 use Rattle.plan_space.specs.Lines.{line_of}
 use Rattle.plan_tree.specs.Costs.{AreRowsOf}
-use Rattle.plan_search.specs.declared.native.Native.{Native}
+use Rattle.plan_search.specs.declared.native.NativeNode.{NativeNode}
 use Rattle.plan_search.specs.Natives.{IsNative, AreNative, RisesFrom, mode_number, HasMode, IsInMode, AreInModes}
 use Rattle.plan_search.specs.Natives.{AddsModes, AreListed}
 use Rattle.plan_search.proofs.Tried.{rises_less}
@@ -27,25 +27,25 @@ abbrev pub HasFewModes : Query → Type 0
 HasFewModes q = (e : PhysicalExpr) (mode : ℕ) (line : Line) → line_of q e mode ≡ Some line → mode < 192
 
 module _ (q : Query) (group : KeyParts) where
-  are_push : (list : List Native) (p : Native) → IsNative q group p → AreNative q group list
+  are_push : (list : List NativeNode) (p : NativeNode) → IsNative q group p → AreNative q group list
       → AreNative q group (list ++ p ∷ [])
   are_push [] p is are = (is, tt)
   are_push (first ∷ others) p is are = (are.0, are_push others p is are.1)
 
   -- such members, whose numbers rise up to the bound
-  pub record AreUpTo (bound : ℕ) (list : List Native) : Type 0 where
+  pub record AreUpTo (bound : ℕ) (list : List NativeNode) : Type 0 where
     pub are : AreNative q group list
     pub rises : RisesFrom (2 ^ 56) list
     pub below : AreBelow bound list
 
-  pub up_to_more : (bound more : ℕ) (list : List Native) → bound ≤ more → AreUpTo bound list → AreUpTo more list
+  pub up_to_more : (bound more : ℕ) (list : List NativeNode) → bound ≤ more → AreUpTo bound list → AreUpTo more list
   up_to_more bound more list less up_to = record {
     are = up_to.are;
     rises = up_to.rises;
     below = below_more bound more list less up_to.below;
   }
 
-  up_to_push : (bound : ℕ) (list : List Native) (p : Native) → 2 ^ 56 ≤ mode_number p → bound ≤ mode_number p
+  up_to_push : (bound : ℕ) (list : List NativeNode) (p : NativeNode) → 2 ^ 56 ≤ mode_number p → bound ≤ mode_number p
       → IsNative q group p → AreUpTo bound list
       → AreUpTo (mode_number p + 1) (list ++ p ∷ [])
   up_to_push bound list p least less is up_to = record {
@@ -58,7 +58,7 @@ module _ (q : Query) (group : KeyParts) where
   -- an expression's modes come behind lesser ones
   module _ (e : PhysicalExpr) (member : IsMember q (expr_of e)) (of_group : e.group ≡ group)
       (small : FitsExpr (word_of (expr_of e))) where
-    is_native_in : (p : Native) → IsInMode q e 192 p → IsNative q group p
+    is_native_in : (p : NativeNode) → IsInMode q e 192 p → IsNative q group p
     is_native_in p is =
         let number : word_of (expr_of p.expr) ≡ word_of (expr_of e) = ap (λ x. word_of (expr_of x)) is.expr in
         record {
@@ -70,7 +70,7 @@ module _ (q : Query) (group : KeyParts) where
           small = omega (arith, number, small, is.below);
         }
 
-    up_to_modes : (bound : ℕ) (list modes : List Native) → 2 ^ 56 ≤ bound
+    up_to_modes : (bound : ℕ) (list modes : List NativeNode) → 2 ^ 56 ≤ bound
         → bound ≤ 2 ^ 56 + word_of (expr_of e) * 2 ^ 8 + 192 → AreUpTo bound list → AreInModes q e 192 modes
         → RisesFrom bound modes
         → AreUpTo (2 ^ 56 + word_of (expr_of e) * 2 ^ 8 + 192) (list ++ modes)
@@ -86,7 +86,7 @@ module _ (q : Query) (group : KeyParts) where
         (up_to_push bound list p (omega (arith, least, rises.0)) rises.0 (is_native_in p is) up_to) are.1 rises.1)
 
   -- the members with the first so many words, in all modes in which they have a line
-  pub record AreMade (words : List ℕ) (i : ℕ) (list : List Native) : Type 0 where
+  pub record AreMade (words : List ℕ) (i : ℕ) (list : List NativeNode) : Type 0 where
     pub up_to : AreUpTo (2 ^ 56 + slice_index_or words i EXPRS * 2 ^ 8) list
     pub complete : (k : ℕ) → k < i → (e : PhysicalExpr) (mode : ℕ) (line : Line) → IsMember q (expr_of e)
         → word_of (expr_of e) ≡ slice_index words k → line_of q e mode ≡ Some line
@@ -106,7 +106,7 @@ module _ (q : Query) (group : KeyParts) where
       | inr end ↦ let last = get_or-eq_default words EXPRS end in omega (arith, small, last)
     ]
 
-    pub made_more : HasFewModes q → (i : ℕ) (e : PhysicalExpr) (list new : List Native) → i < length words
+    pub made_more : HasFewModes q → (i : ℕ) (e : PhysicalExpr) (list new : List NativeNode) → i < length words
         → IsMember q (expr_of e) → e.group ≡ group → FitsExpr (word_of (expr_of e))
         → word_of (expr_of e) ≡ slice_index words i
         → ((f : PhysicalExpr) → IsMember q (expr_of f) → word_of (expr_of f) ≡ word_of (expr_of e) → f ≡ e)
@@ -137,7 +137,7 @@ module _ (q : Query) (group : KeyParts) where
         })
 
     -- a logical expression adds nothing
-    pub made_past : (i : ℕ) (e : ExprParts) (list : List Native) → i < length words → FitsExpr (word_of e)
+    pub made_past : (i : ℕ) (e : ExprParts) (list : List NativeNode) → i < length words → FitsExpr (word_of e)
         → word_of e ≡ slice_index words i
         → ((f : PhysicalExpr) → IsMember q (expr_of f) → word_of (expr_of f) ≡ word_of e → ⊥) → AreMade words i list
         → AreMade words (i + 1) list
@@ -153,7 +153,7 @@ module _ (q : Query) (group : KeyParts) where
     }
 
     -- at the end they are all that the group has
-    pub made_all : (i : ℕ) (list : List Native) → length words ≤ i
+    pub made_all : (i : ℕ) (list : List NativeNode) → length words ≤ i
         → ((e : ExprParts) → IsMember q e → e.group ≡ group → Contains words (word_of e)) → AreMade words i list
         → AreListed q group list
     made_all i list end all made = record {

@@ -16,8 +16,8 @@ use Rattle.plan_space.specs.Alternatives.{asked_of, KidsServe}
 use Rattle.plan_space.specs.Choices.{groups_of, AreLeast, LacksOne, native_choice}
 use Rattle.plan_space.specs.Laws.{AreOf}
 use Rattle.plan_search.specs.declared.kept_plans.KeptPlans.{KeptPlans}
-use Rattle.plan_search.specs.declared.choice.PlansBelow.{PlansBelow}
-use Rattle.plan_search.specs.declared.choice.Kids.TheVariants as kids
+use Rattle.plan_search.specs.declared.choice.KidPlans.{KidPlans}
+use Rattle.plan_search.specs.declared.choice.KidPlaces.TheVariants as kids
 use Rattle.plan_tree.specs.declared.alternatives.Alt.{Alt}
 use Rattle.plan_tree.specs.Costs.{IsNativeCost}
 use Rattle.plan_search.specs.Places.{place_asked}
@@ -32,7 +32,7 @@ module _ (q : Query) (answers : KeptPlans) (e : PhysicalExpr) (wanted : Request)
     (known : IsAsked q answers e wanted mode alt) where
   -- the expression over the one child's plan
   made_one : (local : ℕ) → IsNativeCost q e mode wanted local → (kid : Key × Request) (g : KeyParts)
-      → OneKid q answers e wanted mode alt known kid g → (below : PlansBelow)
+      → OneKid q answers e wanted mode alt known kid g → (below : KidPlans)
       → IsPlanAt answers (place_asked kid) below → IsMade q answers wanted e mode (choice_over alt.node local below)
   made_one local cost kid g one below (kept, at, is) =
       let found = some_case q answers g kid.1 kept one.is_answered
@@ -81,7 +81,7 @@ module _ (q : Query) (answers : KeptPlans) (e : PhysicalExpr) (wanted : Request)
   -- the expression over the two children's plans
   pub made_two : (local : ℕ) → IsNativeCost q e mode wanted local → (first second : Key × Request) (g h : KeyParts)
       → TwoKids q answers e wanted mode alt known first second g h
-      → (below : PlansBelow) → ArePlansAt answers (place_asked first) (place_asked second) below
+      → (below : KidPlans) → ArePlansAt answers (place_asked first) (place_asked second) below
       → IsMade q answers wanted e mode (choice_over alt.node local below)
   made_two local cost first second g h both below (kept, more, at, also, is) =
       let found = some_case q answers g first.1 kept both.is_answered
@@ -148,7 +148,7 @@ module _ (q : Query) (answers : KeptPlans) (e : PhysicalExpr) (wanted : Request)
       (sym (line_is q answers e wanted mode alt known other alternative)) lacks
 
   -- the expression by itself
-  pub made_zero : (local : ℕ) → IsNativeCost q e mode wanted local → alt.left ≡ None → (below : PlansBelow)
+  pub made_zero : (local : ℕ) → IsNativeCost q e mode wanted local → alt.left ≡ None → (below : KidPlans)
       → below ≡ record { kids = kids.Zero; cost = 0 }
       → IsMade q answers wanted e mode (choice_over alt.node local below)
   made_zero local cost left below is =
@@ -193,7 +193,7 @@ module _ (q : Query) (answers : KeptPlans) (e : PhysicalExpr) (wanted : Request)
   pub missing_lacks : IsMissing answers alt.left alt.right → IsLacking q wanted e mode
   missing_lacks = missing alt.left alt.right refl refl
 
-  module _ (local : ℕ) (cost : IsNativeCost q e mode wanted local) (below : PlansBelow) where
+  module _ (local : ℕ) (cost : IsNativeCost q e mode wanted local) (below : KidPlans) where
     made_over : (left right : Option (Key × Request)) → alt.left ≡ left → alt.right ≡ right
         → AreFound answers left right below
         → IsMade q answers wanted e mode (choice_over alt.node local below)

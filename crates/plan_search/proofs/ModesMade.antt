@@ -10,32 +10,33 @@ use Rattle.plan_space.specs.Nodes.{number_of}
 use Rattle.plan_space.specs.Lines.{line_of}
 use Rattle.plan_tree.specs.Costs.{AreRowsOf}
 use Rattle.plan_tree.specs.Walks.{AreNone}
-use Rattle.plan_search.specs.declared.native.Native.{Native}
+use Rattle.plan_search.specs.declared.native.NativeNode.{NativeNode}
 use Rattle.plan_search.specs.Natives.{mode_number, IsInMode, AreInModes, AreModesOf}
 use Rattle.plan_search.proofs.RisingNumbers.{AreBelow, rises_push, in_front, in_end}
 
 module _ (q : Query) (e : PhysicalExpr) where
-  are_more : (bound more : ℕ) (list : List Native) → bound ≤ more → AreInModes q e bound list → AreInModes q e more list
+  are_more : (bound more : ℕ) (list : List NativeNode) → bound ≤ more → AreInModes q e bound list
+      → AreInModes q e more list
   are_more bound more [] less are = tt
   are_more bound more (p ∷ ps) less are = (
     record { expr = are.0.expr; below = omega (arith, are.0.below, less); line = are.0.line; rows = are.0.rows },
     are_more bound more ps less are.1,
   )
 
-  are_behind : (bound : ℕ) (list : List Native) (p : Native) → AreInModes q e bound list → IsInMode q e bound p
+  are_behind : (bound : ℕ) (list : List NativeNode) (p : NativeNode) → AreInModes q e bound list → IsInMode q e bound p
       → AreInModes q e bound (list ++ p ∷ [])
   are_behind bound [] p are is = (is, tt)
   are_behind bound (first ∷ others) p are is = (are.0, are_behind bound others p are.1 is)
 
-  numbers_below : (bound : ℕ) (list : List Native) → AreInModes q e bound list
+  numbers_below : (bound : ℕ) (list : List NativeNode) → AreInModes q e bound list
       → AreBelow (number_of (nodes.Native e bound)) list
   numbers_below bound [] are = tt
   numbers_below bound (p ∷ ps) are = let number : word_of (expr_of p.expr) ≡ word_of (expr_of e) =
       ap (λ x. word_of (expr_of x)) are.0.expr in (omega (arith, number, are.0.below), numbers_below bound ps are.1)
 
-  module _ (m : ℕ) (modes : List Native) (so_far : AreModesOf q e m modes) where
+  module _ (m : ℕ) (modes : List NativeNode) (so_far : AreModesOf q e m modes) where
     -- a mode that has a line is added
-    pub mode_pushed : (p : Native) → p.expr ≡ e → p.mode ≡ m → line_of q e m ≡ Some p.line → AreRowsOf q e p.rows
+    pub mode_pushed : (p : NativeNode) → p.expr ≡ e → p.mode ≡ m → line_of q e m ≡ Some p.line → AreRowsOf q e p.rows
         → AreModesOf q e (m + 1) (modes ++ p ∷ [])
     mode_pushed p is_expr is_mode is_line rows =
         let number : mode_number p ≡ number_of (nodes.Native e m) = ap (λ x. number_of (nodes.Native x p.mode)) is_expr
@@ -58,7 +59,8 @@ module _ (q : Query) (e : PhysicalExpr) where
         }
 
   -- modes without a line are passed over
-  pub modes_passed : (from to : ℕ) (modes : List Native) → from ≤ to → AreNone q e from to → AreModesOf q e from modes
+  pub modes_passed : (from to : ℕ) (modes : List NativeNode) → from ≤ to → AreNone q e from to
+      → AreModesOf q e from modes
       → AreModesOf q e to modes
   modes_passed from to modes later none so_far = record {
     are = are_more from to modes later so_far.are;

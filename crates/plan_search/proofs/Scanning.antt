@@ -15,8 +15,8 @@ use Rattle.plan_space.specs.Nodes.{number_of, Tree, leaf, over, two, code_of}
 use Rattle.plan_space.specs.Cost.{cost_of}
 use Rattle.plan_space.specs.Order.{AtMost, IsAtMost}
 use Rattle.plan_space.specs.Choices.{Beats, IsModeSettled, IsEnforcerSettled}
-use Rattle.plan_search.specs.declared.choice.Kids.{Kids}
-use Rattle.plan_search.specs.declared.choice.Kids.TheVariants as kids
+use Rattle.plan_search.specs.declared.choice.KidPlaces.{KidPlaces}
+use Rattle.plan_search.specs.declared.choice.KidPlaces.TheVariants as kids
 use Rattle.plan_search.specs.declared.kept_plans.KeptPlans.{KeptPlans}
 use Rattle.plan_search.specs.declared.choice.Choice.{Choice}
 use Rattle.plan_search.specs.Places.{place_of}
@@ -184,7 +184,7 @@ module _ (q : Query) where
         ]
 
 -- the number at the root of a plan that is built so
-pub built_root : (answers : KeptPlans) (bound : ℕ) (below : Kids) (node : NodeKind) (tree : Tree)
+pub built_root : (answers : KeptPlans) (bound : ℕ) (below : KidPlaces) (node : NodeKind) (tree : Tree)
     → IsBuilt answers bound below node tree → root_number tree ≡ number_of node
 built_root answers bound kids.Zero node tree is = ap root_number is
 built_root answers bound (kids.One place) node tree (kid, before, stands, is) = ap root_number is

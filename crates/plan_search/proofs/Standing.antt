@@ -7,8 +7,8 @@ use Rattle.plan_space.specs.Nodes.{Tree, leaf, over, two}
 use Rattle.plan_tree.specs.Nodes.{IsNode}
 use Rattle.plan_search.specs.declared.kept_plans.KeptPlans.{KeptPlans}
 use Rattle.plan_search.specs.declared.choice.Choice.{Choice}
-use Rattle.plan_search.specs.declared.choice.Kids.{Kids}
-use Rattle.plan_search.specs.declared.choice.Kids.TheVariants as kids
+use Rattle.plan_search.specs.declared.choice.KidPlaces.{KidPlaces}
+use Rattle.plan_search.specs.declared.choice.KidPlaces.TheVariants as kids
 use Rattle.plan_search.specs.KeptPlans.{answer_at, kept_at, IsRootAt, StandsAt}
 use Rattle.plan_search.specs.BestSoFar.{IsBuilt}
 
@@ -28,7 +28,7 @@ stands_some answers place (two node left right) (kept, first, second, root, is, 
     (kept, ap (option_and_then (λ a. a)) root.at)
 
 module _ (answers : KeptPlans) (place : ℕ) (kept : Choice) (at : kept_at answers place ≡ Some kept) where
-  same_kids : (other : Choice) (node : NodeKind) (below also : Kids) → IsRootAt answers place other node
+  same_kids : (other : Choice) (node : NodeKind) (below also : KidPlaces) → IsRootAt answers place other node
       → other.kids ≡ also → kept.kids ≡ below → also ≡ below
   same_kids other node below also root is is_kept =
       let same : Some (Some other) ≡ Some (Some kept) = sym root.at ∙ answer_is (answer_at answers place) kept at in
@@ -129,7 +129,7 @@ module _ (old new : KeptPlans) (bound : ℕ) (kept : (place : ℕ) → place < b
   )
 
   -- and a tree that was built over such trees stands at the place of its root
-  pub built_stands : (choice : Choice) (below : Kids) (node : NodeKind) (tree : Tree) → choice.kids ≡ below
+  pub built_stands : (choice : Choice) (below : KidPlaces) (node : NodeKind) (tree : Tree) → choice.kids ≡ below
       → IsRootAt new bound choice node → IsBuilt old bound below node tree
       → StandsAt new bound tree
   built_stands choice kids.Zero node tree is root built = subst (StandsAt new bound) (sym built) (choice, root, is)

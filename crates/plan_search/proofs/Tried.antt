@@ -12,20 +12,20 @@ use Rattle.plan_space.specs.Nodes.{Tree}
 use Rattle.plan_space.specs.Choices.{IsModeSettled}
 use Rattle.plan_search.specs.declared.kept_plans.KeptPlans.{KeptPlans}
 use Rattle.plan_search.specs.declared.choice.Choice.{Choice}
-use Rattle.plan_search.specs.declared.native.Native.{Native}
+use Rattle.plan_search.specs.declared.native.NativeNode.{NativeNode}
 use Rattle.plan_search.specs.Natives.{IsNative, AreNative, RisesFrom, mode_number, IsIn}
 use Rattle.plan_search.specs.BestSoFar.{AreSettledIn, Goes, GoesOver, GoesOverAll}
 use Rattle.plan_search.proofs.Scanning.{IsStable, goes_on, goes_to, goes_as, goes_not, mode_stable}
 
 -- each of the list is such a member
-pub is_native_at : (q : Query) (group : KeyParts) (list : List Native) (i : ℕ) (d : Native) → i < length list
+pub is_native_at : (q : Query) (group : KeyParts) (list : List NativeNode) (i : ℕ) (d : NativeNode) → i < length list
     → AreNative q group list → IsNative q group (get_or list i d)
 is_native_at q group [] i d within are = absurd (omega (arith, within))
 is_native_at q group (p ∷ ps) zero d within are = are.0
 is_native_at q group (p ∷ ps) (suc i) d within are = is_native_at q group ps i d (omega (arith, within)) are.1
 
 -- and of its own group
-pub of_own_group : (q : Query) (group : KeyParts) (p : Native) → IsNative q group p → IsNative q p.expr.group p
+pub of_own_group : (q : Query) (group : KeyParts) (p : NativeNode) → IsNative q group p → IsNative q p.expr.group p
 of_own_group q group p is = record {
   member = is.member;
   of_group = refl;
@@ -36,28 +36,29 @@ of_own_group q group p is = record {
 }
 
 -- the number of the first, or one that is above all
-abbrev pub next_number : List Native → ℕ
+abbrev pub next_number : List NativeNode → ℕ
 next_number [] = 2 ^ 57
 next_number (p ∷ ps) = mode_number p
 
 -- numbers that rise from a bound rise from each lesser one
-pub rises_less : (bound lesser : ℕ) (list : List Native) → lesser ≤ bound → RisesFrom bound list → RisesFrom lesser list
+pub rises_less : (bound lesser : ℕ) (list : List NativeNode) → lesser ≤ bound → RisesFrom bound list
+    → RisesFrom lesser list
 rises_less bound lesser [] less rises = tt
 rises_less bound lesser (p ∷ ps) less rises = (omega (arith, less, rises.0), rises.1)
 
 -- the first is not below the bound
-pub first_from : (bound : ℕ) (list : List Native) → bound ≤ 2 ^ 57 → RisesFrom bound list → bound ≤ next_number list
+pub first_from : (bound : ℕ) (list : List NativeNode) → bound ≤ 2 ^ 57 → RisesFrom bound list → bound ≤ next_number list
 first_from bound [] most rises = most
 first_from bound (p ∷ ps) most rises = rises.0
 
 -- one more of a list's first elements
-pub take_more : (list : List Native) (i : ℕ) (d : Native) → i < length list
+pub take_more : (list : List NativeNode) (i : ℕ) (d : NativeNode) → i < length list
     → take (suc i) list ≡ take i list ++ get_or list i d ∷ []
 take_more [] i d within = absurd (omega (arith, within))
 take_more (p ∷ ps) zero d within = refl
 take_more (p ∷ ps) (suc i) d within = ap (λ x. p ∷ x) (take_more ps i d (omega (arith, within)))
 
-in_append : (p last : Native) (list : List Native) → IsIn p (list ++ last ∷ []) → IsIn p list ⊎ (p ≡ last)
+in_append : (p last : NativeNode) (list : List NativeNode) → IsIn p (list ++ last ∷ []) → IsIn p list ⊎ (p ≡ last)
 in_append p last [] (inl is) = inr is
 in_append p last [] (inr none) = absurd none
 in_append p last (first ∷ others) (inl is) = inl (inl is)
@@ -67,11 +68,11 @@ in_append p last (first ∷ others) (inr later) = elim (in_append p last others 
 ]
 
 module _ (q : Query) (wanted : Request) where
-  pub settled_stable : (list : List Native) → IsStable q (AreSettledIn q wanted list)
+  pub settled_stable : (list : List NativeNode) → IsStable q (AreSettledIn q wanted list)
   settled_stable list best other improves settled p among =
       mode_stable q wanted p.expr p.mode best other improves (settled p among)
 
-  settled_more : (list : List Native) (last : Native) (best : Option Tree) → AreSettledIn q wanted list best
+  settled_more : (list : List NativeNode) (last : NativeNode) (best : Option Tree) → AreSettledIn q wanted list best
       × IsModeSettled (IsMember q) q wanted last.expr last.mode best
       → AreSettledIn q wanted (list ++ last ∷ []) best
   settled_more list last best settled p among = elim (in_append p last list among) [
@@ -79,7 +80,7 @@ module _ (q : Query) (wanted : Request) where
     | inr is ↦ subst (λ x. IsModeSettled (IsMember q) q wanted x.expr x.mode best) (sym is) settled.1
   ]
 
-  module _ (answers : KeptPlans) (group : KeyParts) (list : List Native) where
+  module _ (answers : KeptPlans) (group : KeyParts) (list : List NativeNode) where
     -- the bests so far, where the first so many of the list are settled
     pub record AreTried (i : ℕ) (old new : Option Choice) : Type 0 where
       pub goes : Goes q answers group wanted (2 ^ 56) (next_number (drop i list)) (AreSettledIn q wanted (take i list))
@@ -93,7 +94,7 @@ module _ (q : Query) (wanted : Request) where
       rises = rises_less (2 ^ 56) 0 list (omega arith) rises;
     }
 
-    tried_next : (i : ℕ) (d p : Native) (old new newer : Option Choice) → i < length list → p ≡ get_or list i d
+    tried_next : (i : ℕ) (d p : NativeNode) (old new newer : Option Choice) → i < length list → p ≡ get_or list i d
         → IsNative q group p → AreTried i old new
         → GoesOver q answers p wanted new newer → AreTried (suc i) old newer
     tried_next i d p old new newer within is physical tried goes =
@@ -126,7 +127,7 @@ module _ (q : Query) (wanted : Request) where
           rises = rises_less (mode_number p + 1) 0 (drop (suc i) list) (omega arith) rises.1;
         }
 
-    pub tried_more : (i : ℕ) (d : Native) (old new newer : Option Choice) → i < length list → AreNative q group list
+    pub tried_more : (i : ℕ) (d : NativeNode) (old new newer : Option Choice) → i < length list → AreNative q group list
         → AreTried i old new
         → GoesOver q answers (get_or list i d) wanted new newer → AreTried (i + 1) old newer
     tried_more i d old new newer within are tried goes =

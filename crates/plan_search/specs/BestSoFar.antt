@@ -20,11 +20,11 @@ use Rattle.plan_space.specs.Alternatives.{IsAlternative, asked_of}
 use Rattle.plan_space.specs.Enforcers.{EnforcedBy, enforcers_of, Among}
 use Rattle.plan_tree.specs.declared.node.Node.{Node}
 use Rattle.plan_search.specs.declared.kept_plans.KeptPlans.{KeptPlans}
-use Rattle.plan_search.specs.declared.native.Native.{Native}
-use Rattle.plan_search.specs.declared.choice.PlansBelow.{PlansBelow}
+use Rattle.plan_search.specs.declared.native.NativeNode.{NativeNode}
+use Rattle.plan_search.specs.declared.choice.KidPlans.{KidPlans}
 use Rattle.plan_search.specs.declared.choice.Choice.{Choice}
-use Rattle.plan_search.specs.declared.choice.Kids.{Kids}
-use Rattle.plan_search.specs.declared.choice.Kids.TheVariants as kids
+use Rattle.plan_search.specs.declared.choice.KidPlaces.{KidPlaces}
+use Rattle.plan_search.specs.declared.choice.KidPlaces.TheVariants as kids
 use Rattle.plan_tree.specs.Nodes.{IsNode}
 use Rattle.plan_search.specs.Places.{place_of}
 use Rattle.plan_search.specs.KeptPlans.{StandsAt}
@@ -33,7 +33,7 @@ use Rattle.plan_search.specs.Natives.{mode_number, IsIn}
 -- ---- the best plan so far
 
 -- the tree is the node over what stands at these places, which come before the bound
-abbrev pub IsBuilt : KeptPlans → ℕ → Kids → NodeKind → Tree → Type 0
+abbrev pub IsBuilt : KeptPlans → ℕ → KidPlaces → NodeKind → Tree → Type 0
 IsBuilt answers bound kids.Zero node tree = tree ≡ leaf node
 IsBuilt answers bound (kids.One place) node tree = (kid : Tree) × (place < bound) × StandsAt answers place kid
     × (tree ≡ over node kid)
@@ -71,7 +71,7 @@ IsBestChoice q answers group wanted choice = (best : Option Tree) × IsBestSoFar
 -- ---- one choice more
 
 -- the node, which costs so much by itself, over the plans below
-abbrev pub choice_over : Node → ℕ → PlansBelow → Choice
+abbrev pub choice_over : Node → ℕ → KidPlans → Choice
 choice_over node local below = record { node = node; cost = local + below.cost; kids = below.kids }
 
 -- of the two the one that costs less, and of equal ones the first
@@ -119,16 +119,18 @@ IsMade q answers wanted e mode choice =
     kids × IsNodeOver (nodes.Native e mode) kids tree)
 
 -- each of the list is settled
-abbrev pub AreSettledIn : Query → Request → List Native → Option Tree → Type 0
-AreSettledIn q wanted list best = (p : Native) → IsIn p list → IsModeSettled (IsMember q) q wanted p.expr p.mode best
+abbrev pub AreSettledIn : Query → Request → List NativeNode → Option Tree → Type 0
+AreSettledIn q wanted list best = (p : NativeNode) → IsIn p list
+    → IsModeSettled (IsMember q) q wanted p.expr p.mode best
 
 -- over a member in its mode
-abbrev pub GoesOver : Query → KeptPlans → Native → Request → Option Choice → Option Choice → Type 0
+abbrev pub GoesOver : Query → KeptPlans → NativeNode → Request → Option Choice → Option Choice → Type 0
 GoesOver q answers p wanted old new = Goes q answers p.expr.group wanted (mode_number p) (mode_number p + 1)
     (IsModeSettled (IsMember q) q wanted p.expr p.mode) old new
 
 -- over the members of the group in their modes
-abbrev pub GoesOverAll : Query → KeptPlans → KeyParts → Request → List Native → Option Choice → Option Choice → Type 0
+abbrev pub GoesOverAll : Query → KeptPlans → KeyParts → Request → List NativeNode → Option Choice → Option Choice
+    → Type 0
 GoesOverAll q answers group wanted list old new =
     Goes q answers group wanted (2 ^ 56) (2 ^ 57) (AreSettledIn q wanted list) old new
 

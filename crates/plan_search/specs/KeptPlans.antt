@@ -16,9 +16,9 @@ use Rattle.plan_space.specs.Nodes.{Tree, leaf, over, two}
 use Rattle.plan_space.specs.Cost.{cost_of}
 use Rattle.plan_space.specs.Least.{IsLeast, HasNoPlan}
 use Rattle.plan_search.specs.declared.kept_plans.KeptPlans.{KeptPlans}
-use Rattle.plan_search.specs.declared.choice.PlansBelow.{PlansBelow}
+use Rattle.plan_search.specs.declared.choice.KidPlans.{KidPlans}
 use Rattle.plan_search.specs.declared.choice.Choice.{Choice}
-use Rattle.plan_search.specs.declared.choice.Kids.TheVariants as kids
+use Rattle.plan_search.specs.declared.choice.KidPlaces.TheVariants as kids
 use Rattle.plan_tree.specs.Nodes.{IsNode}
 use Rattle.plan_search.specs.Places.{place_of, place_asked}
 
@@ -81,18 +81,18 @@ abbrev pub cost_at : KeptPlans → ℕ → ℕ
 cost_at answers place = option_map_or (λ kept. kept.cost) (kept_at answers place) 0
 
 -- what is below is the plan at the place
-abbrev pub IsPlanAt : KeptPlans → ℕ → PlansBelow → Type 0
+abbrev pub IsPlanAt : KeptPlans → ℕ → KidPlans → Type 0
 IsPlanAt answers place below = (kept : Choice) × (kept_at answers place ≡ Some kept)
     × (below ≡ record { kids = kids.One place; cost = kept.cost })
 
 -- what is below is the plans at the two places
-abbrev pub ArePlansAt : KeptPlans → ℕ → ℕ → PlansBelow → Type 0
+abbrev pub ArePlansAt : KeptPlans → ℕ → ℕ → KidPlans → Type 0
 ArePlansAt answers first second below =
     (left right : Choice) × (kept_at answers first ≡ Some left) × (kept_at answers second ≡ Some right)
     × (below ≡ record { kids = kids.Two first second; cost = left.cost + right.cost })
 
 -- what is below is the plans at the requests that a node asks for, none where it asks for none of a left child
-abbrev pub AreFound : KeptPlans → Option (Key × Request) → Option (Key × Request) → PlansBelow → Type 0
+abbrev pub AreFound : KeptPlans → Option (Key × Request) → Option (Key × Request) → KidPlans → Type 0
 AreFound answers None right below = below ≡ record { kids = kids.Zero; cost = 0 }
 AreFound answers (Some left) None below = IsPlanAt answers (place_asked left) below
 AreFound answers (Some left) (Some right) below = ArePlansAt answers (place_asked left) (place_asked right) below

@@ -82,11 +82,11 @@ AreBoundSteps q words from found = (e : ExprParts) → IsMember q e → Contains
     → HasBoundResults q words e found
 
 -- the words are those of either list
-abbrev pub Covers : List ℕ → List ℕ → List ℕ → Type 0
-Covers words some others = (w : ℕ) → Contains words w → Contains some w ⊎ Contains others w
+abbrev pub AreOfEither : List ℕ → List ℕ → List ℕ → Type 0
+AreOfEither words some others = (w : ℕ) → Contains words w → Contains some w ⊎ Contains others w
 
 -- the new ones are some of the words, ascending, and each other word is among some
 pub record AreOthers (words some new : List ℕ) : Type 0 where
-  pub covers : Covers words some new
+  pub covers : AreOfEither words some new
   pub part : All (Contains words) new
   pub ascending : IsStrictlyIncreasing new

@@ -13,7 +13,7 @@ ghost use Rattle.plan_search.specs.BestSoFar.{HasRows, IsBestChoice};
 use crate::choice::Choice;
 use crate::enforcers::try_enforcers;
 use crate::kept_plans::KeptPlans;
-use crate::native::Native;
+use crate::native::NativeNode;
 use crate::natives::{Search, try_all};
 use crate::places::place_at;
 use plan_space::settled_is_least;
@@ -25,7 +25,7 @@ use std::alloc::AllocError;
 pub fn answer(
     query: &Query,
     props: &Props,
-    list: &[Native],
+    list: &[NativeNode],
     group: KeyParts,
     rows: u64,
     wanted: Request,
@@ -50,7 +50,7 @@ pub fn answer(
 fn find(
     query: &Query,
     props: &Props,
-    list: &[Native],
+    list: &[NativeNode],
     group: KeyParts,
     rows: u64,
     wanted: Request,

@@ -10,7 +10,7 @@ use plan_tree::Node;
 
 /// The places of the plans below a node.
 #[derive(Clone, Copy)]
-pub enum Kids {
+pub enum KidPlaces {
     Zero,
     One(u64),
     Two(u64, u64),
@@ -18,12 +18,12 @@ pub enum Kids {
 
 /// The plans below a node: where they stand, and what they cost together.
 #[derive(Clone, Copy)]
-pub struct PlansBelow {
-    pub kids: Kids,
+pub struct KidPlans {
+    pub kids: KidPlaces,
     pub cost: u64,
 }
 
-impl PlansBelow {
+impl KidPlans {
     /// The node, which costs so much by itself, over these plans.
     pub fn under(self, node: Node, local: u64) -> Choice
         requires local { local ≤ most_cost }
@@ -43,7 +43,7 @@ impl PlansBelow {
 pub struct Choice {
     pub node: Node,
     pub cost: u64,
-    pub kids: Kids,
+    pub kids: KidPlaces,
 }
 
 /// Takes the choice where it costs less than the best so far.

@@ -12,7 +12,8 @@ ghost use Rattle.xform_rules.specs.Forms.{IsLeftSide};
 ghost use Rattle.xform_rules.specs.Closure.{IsMember, IsMemberWord, IsClosureOf};
 ghost use Rattle.plan_search.specs.Steps.{AreMemberWords, AreMembers, GrowsTo, ContainsWordOf, HasOrigin};
 ghost use Rattle.plan_search.specs.Steps.{HasOrigins, HasResultAt, HasResultsOf, HasResults};
-ghost use Rattle.plan_search.specs.Steps.{HasBoundResults, HasResultsWith, HasSteps, AreSteps, AreBoundSteps, AreOthers};
+ghost use Rattle.plan_search.specs.Steps.{HasBoundResults, HasResultsWith, HasSteps, AreSteps, AreBoundSteps};
+ghost use Rattle.plan_search.specs.Steps.{AreOthers};
 
 use crate::word_set::WordSet;
 use orca_base::List;

@@ -17,7 +17,7 @@ use xform_rules::members_are_candidates;
 
 /// A physical expression in a mode, with its line there, and its rows.
 #[derive(Clone, Copy)]
-pub struct Native {
+pub struct NativeNode {
     pub expr: PhysicalExpr,
     pub mode: u32,
     pub line: Line,
@@ -31,7 +31,7 @@ pub fn natives_of(
     props: &Props,
     group: KeyParts,
     words: &[u64],
-) -> Result<Vec<Native>, AllocError>
+) -> Result<Vec<NativeNode>, AllocError>
     requires props { IsProps query.now props.now }
     requires members { AreMembersOf query.now group words.now }
     ensures { IfOk result (λ list. AreListed query.now group list.items) }
@@ -55,7 +55,7 @@ fn push_modes(
     query: &Query,
     props: &Props,
     expr: PhysicalExpr,
-    list: &mut Vec<Native>,
+    list: &mut Vec<NativeNode>,
 ) -> Result<(), AllocError>
     requires props { IsProps query.now props.now }
     requires candidate { IsCandidate query.now (expr_of expr) }
@@ -64,7 +64,7 @@ fn push_modes(
     let rows = expr_rows(query, props, expr);
     let mut from = 0;
     'modes: while let Some((mode, line)) = next_line(query, props, expr, from) {
-        list.push(Native {
+        list.push(NativeNode {
             expr,
             mode,
             line,
@@ -80,9 +80,9 @@ pub fn those_for(
     alloc: Global,
     query: &Query,
     props: &Props,
-    list: &[Native],
+    list: &[NativeNode],
     dist: Dist,
-) -> Result<Vec<Native>, AllocError>
+) -> Result<Vec<NativeNode>, AllocError>
     requires { IsProps query.now props.now }
     ensures { IfOk result (λ those. AreThoseFor query.now dist list.now those.items) }
 {

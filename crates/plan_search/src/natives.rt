@@ -13,7 +13,7 @@ ghost use Rattle.plan_search.specs.Natives.{AreNative, IsNative, RisesFrom};
 use crate::below::plans_below;
 use crate::choice::{Choice, offer};
 use crate::kept_plans::KeptPlans;
-use crate::native::Native;
+use crate::native::NativeNode;
 use plan_space::{choices_serve, costs_fit, keys_fall, plans_are_ordered, what_is_asked_fits};
 use plan_tree::{Alt, alternative_by, native_cost_by};
 use query_core::{KeyParts, Query};
@@ -35,7 +35,7 @@ pub fn try_all(
     search: Search<'_>,
     group: KeyParts,
     wanted: Request,
-    list: &[Native],
+    list: &[NativeNode],
     best: &mut Option<Choice>,
 )
     requires props { IsProps search.query.now search.props.now }
@@ -52,7 +52,7 @@ pub fn try_all(
 }
 
 /// Offers the member in the mode, where it can meet the request.
-pub fn try_mode(search: Search<'_>, p: &Native, wanted: Request, best: &mut Option<Choice>)
+pub fn try_mode(search: Search<'_>, p: &NativeNode, wanted: Request, best: &mut Option<Choice>)
     requires props { IsProps search.query.now search.props.now }
     requires is { IsNative search.query.now p.now.expr.group p.now }
     requires fits { Fits search.query.now p.now.expr.group wanted }
@@ -72,7 +72,7 @@ pub fn try_mode(search: Search<'_>, p: &Native, wanted: Request, best: &mut Opti
 }
 
 /// The member in the mode over the least plans of what it asks for, where these are there.
-fn choice_of(search: Search<'_>, p: &Native, wanted: Request, alt: Alt) -> Option<Choice>
+fn choice_of(search: Search<'_>, p: &NativeNode, wanted: Request, alt: Alt) -> Option<Choice>
     requires props { IsProps search.query.now search.props.now }
     requires is { IsNative search.query.now p.now.expr.group p.now }
     requires fits { Fits search.query.now p.now.expr.group wanted }

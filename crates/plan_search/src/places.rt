@@ -2,7 +2,7 @@
 #![tactic(auto)]
 
 ghost use Rattle.std.specs.Prelude.{◌≡◌};
-ghost use Rattle.plan_search.specs.Places.{dist_place as place_of_dist, place_at as place_number};
+ghost use Rattle.plan_search.specs.Places.{dist_place as the_dist_place, place_at as the_place_at};
 
 use query_core::Key;
 use request_props::{Dist, Request};
@@ -14,13 +14,13 @@ pub const ORDERS: u32 = 64;
 
 /// The place of a request of the group with this key.
 pub fn place_at(key: Key, wanted: Request) -> u64
-    ensures { result ≡ place_number key.0 wanted }
+    ensures { result ≡ the_place_at key.0 wanted }
 {
     (key.0 as u64 * DISTS as u64 + dist_place(wanted.dist)) * ORDERS as u64 + wanted.order as u64
 }
 
 fn dist_place(dist: Dist) -> u64
-    ensures { result ≡ place_of_dist dist }
+    ensures { result ≡ the_dist_place dist }
 {
     match dist {
         Dist::Spread => 0,
@@ -32,7 +32,7 @@ fn dist_place(dist: Dist) -> u64
 
 /// The distribution that has this place.
 pub fn dist_at(place: u32) -> Dist
-    ensures { place_of_dist result ≡ place }
+    ensures { the_dist_place result ≡ place }
 {
     match place {
         0 => Dist::Spread,

@@ -6,7 +6,7 @@ ghost use Rattle.plan_space.specs.Nodes.{Tree};
 ghost use Rattle.plan_tree.specs.Spells.{Spells};
 ghost use Rattle.plan_search.specs.KeptPlans.{StandsAt};
 
-use crate::choice::Kids;
+use crate::choice::KidPlaces;
 use crate::kept_plans::KeptPlans;
 use plan_tree::Plan;
 use std::alloc::{AllocError, Global};
@@ -19,12 +19,12 @@ pub fn plan_at(alloc: Global, answers: &KeptPlans, place: u64) -> Result<Plan, A
 {
     match answers.kept(place) {
         Some(kept) => match kept.kids {
-            Kids::Zero => Ok(Plan::Leaf(kept.node)),
-            Kids::One(below) => Ok(Plan::Over(
+            KidPlaces::Zero => Ok(Plan::Leaf(kept.node)),
+            KidPlaces::One(below) => Ok(Plan::Over(
                 kept.node,
                 Box::new(alloc, plan_at(alloc, answers, below)?)?,
             )),
-            Kids::Two(first, second) => Ok(Plan::Two(
+            KidPlaces::Two(first, second) => Ok(Plan::Two(
                 kept.node,
                 Box::new(alloc, plan_at(alloc, answers, first)?)?,
                 Box::new(alloc, plan_at(alloc, answers, second)?)?,

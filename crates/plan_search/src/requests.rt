@@ -2,18 +2,18 @@
 #![tactic(auto)]
 
 ghost use Rattle.std.specs.Prelude.{ℕ, ◌≡◌, ◌<◌, ◌+◌, ◌*◌, IfOk, OnOk, MatchOption};
-ghost use Rattle.query_core.specs.declared.words.KeyParts.{KeyParts as Group};
+ghost use Rattle.query_core.specs.declared.words.KeyParts.{KeyParts as AnyKeyParts};
 ghost use Rattle.query_core.specs.Keys.{IsGroup, key_number};
 ghost use Rattle.request_props.specs.Numbered.{IsProps};
 ghost use Rattle.xform_rules.specs.Closure.{IsClosureOf};
-ghost use Rattle.plan_search.specs.Places.{dist_place as dist_place_of, first_place, place_of, request_place};
+ghost use Rattle.plan_search.specs.Places.{dist_place as the_dist_place, first_place, place_of, request_place};
 ghost use Rattle.plan_search.specs.KeptPlans.{AreAnswered};
 ghost use Rattle.plan_search.specs.Natives.{AreListedFor};
 ghost use Rattle.plan_search.specs.BestSoFar.{HasRows};
 
 use crate::best::answer;
 use crate::kept_plans::KeptPlans;
-use crate::native::{Native, natives_of, those_for};
+use crate::native::{NativeNode, natives_of, those_for};
 use crate::places::{DISTS, ORDERS, dist_at};
 use query_core::{KEYS, Key, KeyParts, Query, expressions_are_one, groups_are_known};
 use request_props::{Dist, Props, Request};
@@ -61,7 +61,7 @@ fn answer_key(
 /// The query's group with this key, if it has one.
 fn group_with(query: &Query, props: &Props, key: u32) -> Option<KeyParts>
     requires { IsProps query.now props.now }
-    ensures { MatchOption result ((g : Group) → IsGroup query.now g → key_number g ≡ key → ⊥)
+    ensures { MatchOption result ((g : AnyKeyParts) → IsGroup query.now g → key_number g ≡ key → ⊥)
         (λ g. IsGroup query.now g × (key_number g ≡ key)) }
 {
     if props.is_key(query, Key(key)) {
@@ -100,7 +100,7 @@ fn answer_group(
 fn answer_dist(
     query: &Query,
     props: &Props,
-    list: &[Native],
+    list: &[NativeNode],
     group: KeyParts,
     rows: u64,
     dist: Dist,
@@ -110,11 +110,11 @@ fn answer_dist(
     requires known { IsGroup query.now group }
     requires rows { HasRows query.now group rows }
     requires listed { AreListedFor query.now group dist list.now }
-    requires dist { dist_place_of dist < DISTS }
+    requires dist { the_dist_place dist < DISTS }
     requires answered { AreAnswered query.now answers.now
-        (first_place (key_number group) + dist_place_of dist * ORDERS) }
+        (first_place (key_number group) + the_dist_place dist * ORDERS) }
     ensures { OnOk result (AreAnswered query.now answers.new
-        (first_place (key_number group) + (dist_place_of dist + 1) * ORDERS)) }
+        (first_place (key_number group) + (the_dist_place dist + 1) * ORDERS)) }
 {
     for order in 0..ORDERS {
         let wanted = Request { dist, order };
@@ -127,7 +127,7 @@ fn answer_dist(
 fn answer_wanted(
     query: &Query,
     props: &Props,
-    list: &[Native],
+    list: &[NativeNode],
     group: KeyParts,
     rows: u64,
     wanted: Request,

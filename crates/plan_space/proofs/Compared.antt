@@ -18,11 +18,11 @@ use Rattle.plan_space.specs.Order.{IsAtMost}
 use Rattle.plan_space.proofs.Codes.{AreCompared, before_at_most, same_at_most, before_is_less, compared_first}
 use Rattle.plan_space.proofs.Codes.{compared_append}
 use Rattle.plan_space.proofs.Few.{orders_few, lists_few}
-use Rattle.plan_space.proofs.NodeNumbers.{IsInRange, fits_in_range, fits_arity, number_arity}
+use Rattle.plan_space.proofs.NodeNumbers.{IsNodeWithin, fits_in_range, fits_arity, number_arity}
 
 module _ (Member : ExprParts → Type 0) (packed : (e : ExprParts) → Member e → IsPacked e)
     (expressions : (e f : ExprParts) → IsPacked e → IsPacked f → word_of e ≡ word_of f → e ≡ f) (q : Query) where
-  in_range : (node : NodeKind) (kids : List Kid) → NodeFits Member q node kids → IsInRange 91 node
+  in_range : (node : NodeKind) (kids : List Kid) → NodeFits Member q node kids → IsNodeWithin 91 node
   in_range node kids fits =
       let orders = orders_few q in
       let lists = lists_few q in

@@ -5,7 +5,7 @@ use Rattle.query_core.specs.declared.query.Query.{Query}
 use Rattle.query_core.specs.declared.words.KeyParts.{KeyParts}
 use Rattle.query_core.specs.declared.expressions.ExprParts.{ExprParts}
 use Rattle.query_core.specs.declared.expressions.PhysicalExpr.{PhysicalExpr}
-use Rattle.query_core.specs.Keys.{IsInRange}
+use Rattle.query_core.specs.Keys.{IsGroupInRange}
 use Rattle.cost_units.specs.Cost.{local_cost, most_cost}
 use Rattle.request_props.specs.Satisfied.{Satisfies}
 use Rattle.request_props.specs.declared.request.Request.{Request}
@@ -40,7 +40,7 @@ costs_of q (plan ∷ plans) = cost_of q plan + costs_of q plans
 
 -- a valid plan is of a group in range
 range_of : (Member : ExprParts → Type 0) (q : Query) → ((e : ExprParts) → Member e → IsPacked e) → (plan : Tree)
-    → IsValid Member q plan → IsInRange (kid_of q plan).group
+    → IsValid Member q plan → IsGroupInRange (kid_of q plan).group
 range_of Member q packed (leaf (nodes.Native e mode)) valid = (packed (expr_of e) valid.0).group
 range_of Member q packed (leaf (nodes.Enforcer node)) valid = absurd valid
 range_of Member q packed (over (nodes.Native e mode) kid) valid = (packed (expr_of e) valid.1.0).group
@@ -179,7 +179,7 @@ module _ (Member : ExprParts → Type 0) (q : Query) (known : AreKnown Member q)
   pub least_small : (group : KeyParts) (wanted : Request) (plan : Tree) → Fits q group wanted
       → IsLeast Member q group wanted plan → cost_of q plan ≤ most_of_all
   least_small group wanted plan fits least =
-      let range = subst IsInRange least.serves.of_group (range_of Member q known.packed plan least.serves.valid) in
+      let range = subst IsGroupInRange least.serves.of_group (range_of Member q known.packed plan least.serves.valid) in
       omega (arith, least_nodes group wanted plan fits least, all_few group wanted range)
 
   least_below : (gs : List KeyParts) (ws : List Request) (plans : List Tree) → RequestsFit q gs ws
@@ -210,7 +210,7 @@ module _ (Member : ExprParts → Type 0) (q : Query) (known : AreKnown Member q)
       → IsChoice Member q group wanted plan → cost_of q plan ≤ most_of_all
   choice_small group wanted plan fits (enforced_choice e kid among least is) =
       let below = enforcer_below q group wanted e fits among in
-      let range = subst IsInRange least.serves.of_group (range_of Member q known.packed kid least.serves.valid) in
+      let range = subst IsGroupInRange least.serves.of_group (range_of Member q known.packed kid least.serves.valid) in
       subst (λ t. cost_of q t ≤ most_of_all) (sym is)
       (omega (
         arith,

@@ -2,7 +2,7 @@
 -- and the nodes below.
 use Rattle.std.proofs.Common.{ℕ, zero, suc, ◌≤◌, ◌+◌, ◌*◌, ◌-◌, arith}
 use Rattle.std.specs.Prelude.{List, [], ◌∷◌, length}
-use Rattle.query_core.specs.Keys.{IsInRange}
+use Rattle.query_core.specs.Keys.{IsGroupInRange}
 use Rattle.query_core.specs.declared.words.KeyParts.{KeyParts}
 use Rattle.query_core.specs.declared.words.KeyParts.TheVariants as groups
 use Rattle.request_props.specs.declared.request.Dist.{Dist}
@@ -50,10 +50,10 @@ some_nodes groups.Partial = omega arith
 some_nodes groups.Agg = omega arith
 
 -- no plan has more nodes than this
-pub all_few : (group : KeyParts) (wanted : Request) → IsInRange group → most_nodes group wanted ≤ 16384
+pub all_few : (group : KeyParts) (wanted : Request) → IsGroupInRange group → most_nodes group wanted ≤ 16384
 all_few group wanted range = omega (arith, request_few group wanted, few group range)
   where
-    few : (g : KeyParts) → IsInRange g → group_nodes g ≤ 16368
+    few : (g : KeyParts) → IsGroupInRange g → group_nodes g ≤ 16368
     few (groups.Get t) range = omega arith
     few (groups.Filter t) range = omega arith
     few (groups.Join set) range = omega (arith, range)

@@ -37,9 +37,9 @@ IsEnforcerInRange most (enforcers.GatherMerge order) = order ≤ most
 IsEnforcerInRange most (enforcers.Redistribute list) = list ≤ most
 
 -- an expression has a word, a node's number can name the mode, and orders and lists have no greater number than this
-abbrev pub IsInRange : ℕ → NodeKind → Type 0
-IsInRange most (nodes.Native e mode) = IsPacked (expr_of e) × (mode < node_modes)
-IsInRange most (nodes.Enforcer e) = IsEnforcerInRange most e
+abbrev pub IsNodeWithin : ℕ → NodeKind → Type 0
+IsNodeWithin most (nodes.Native e mode) = IsPacked (expr_of e) × (mode < node_modes)
+IsNodeWithin most (nodes.Enforcer e) = IsEnforcerInRange most e
 
 only_kid : (Fact : Kid → Type 0) (kids : List Kid) → OverOne Fact kids → (kid : Kid) × Fact kid
 only_kid Fact [] fits = absurd fits
@@ -61,7 +61,7 @@ module _ (Member : ExprParts → Type 0) (packed : (e : ExprParts) → Member e 
   enforcer_in_range (enforcers.Redistribute list) kid fits = omega (arith, fits.hash_fits.numbered, few_lists)
 
   -- the nodes of valid plans are in range
-  pub fits_in_range : (node : NodeKind) (kids : List Kid) → NodeFits Member q node kids → IsInRange most node
+  pub fits_in_range : (node : NodeKind) (kids : List Kid) → NodeFits Member q node kids → IsNodeWithin most node
   fits_in_range (nodes.Native e mode) kids fits =
       (packed (expr_of e) fits.0, mode_fits e mode kids (line_of q e mode) refl fits.1)
   fits_in_range (nodes.Enforcer e) kids fits = let (kid, fact) = only_kid (EnforcerFits q e) kids fits in
@@ -135,8 +135,8 @@ enforcer_one a b x y same = absurd (omega (arith, x, y, same))
 
 module _ (expressions : (e f : ExprParts) → IsPacked e → IsPacked f → word_of e ≡ word_of f → e ≡ f) (most : ℕ)
     (few : most < 2 ^ 32) where
-  native_same : (e f : PhysicalExpr) (mode other : ℕ) → IsInRange most (nodes.Native e mode)
-      → IsInRange most (nodes.Native f other)
+  native_same : (e f : PhysicalExpr) (mode other : ℕ) → IsNodeWithin most (nodes.Native e mode)
+      → IsNodeWithin most (nodes.Native f other)
       → number_of (nodes.Native e mode) ≡ number_of (nodes.Native f other) → nodes.Native e mode ≡ nodes.Native f other
   native_same e f mode other x y same =
       let below = x.1 in
@@ -152,7 +152,7 @@ module _ (expressions : (e f : ExprParts) → IsPacked e → IsPacked f → word
   apart e mode b in_range same = omega (arith, enforcer_small most few b in_range, same)
 
   -- nodes with one number have as many kids
-  pub number_arity : (a b : NodeKind) → IsInRange most a → IsInRange most b → number_of a ≡ number_of b
+  pub number_arity : (a b : NodeKind) → IsNodeWithin most a → IsNodeWithin most b → number_of a ≡ number_of b
       → arity_of a ≡ arity_of b
   number_arity (nodes.Native e mode) (nodes.Native f other) x y same = ap arity_of (native_same e f mode other x y same)
   number_arity (nodes.Native e mode) (nodes.Enforcer b) x y same = absurd (apart e mode b y same)
@@ -161,7 +161,7 @@ module _ (expressions : (e f : ExprParts) → IsPacked e → IsPacked f → word
 
 -- where orders and lists have numbers up to 60, nodes with one number are one
 pub number_names_one : ((e f : ExprParts) → IsPacked e → IsPacked f → word_of e ≡ word_of f → e ≡ f) → (a b : NodeKind)
-    → IsInRange 60 a → IsInRange 60 b
+    → IsNodeWithin 60 a → IsNodeWithin 60 b
     → number_of a ≡ number_of b → a ≡ b
 number_names_one expressions (nodes.Native e mode) (nodes.Native f other) x y same =
     native_same expressions 60 (omega arith) e f mode other x y same

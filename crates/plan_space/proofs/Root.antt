@@ -193,24 +193,25 @@ number_of_empty orders (suc place) none of_order =
     absurd (none (place, omega (arith, of_order.numbered), of_order.is_order))
 
 -- the list isn't empty
-abbrev IsFull : List ℕ → Type 0
-IsFull list = list ≡ [] → ⊥
+abbrev IsNonempty : List ℕ → Type 0
+IsNonempty list = list ≡ [] → ⊥
 
-unless_empty_full : (list : List ℕ) → All IsFull (unless_empty list)
-unless_empty_full [] = All-nil IsFull
-unless_empty_full (first ∷ others) = All-cons IsFull (first ∷ others) [] (λ never. cc) (All-nil IsFull)
+unless_empty_full : (list : List ℕ) → All IsNonempty (unless_empty list)
+unless_empty_full [] = All-nil IsNonempty
+unless_empty_full (first ∷ others) = All-cons IsNonempty (first ∷ others) [] (λ never. cc) (All-nil IsNonempty)
 
-alone_full : (numbers : List ℕ) → All IsFull (one_each numbers)
-alone_full [] = All-nil IsFull
-alone_full (first ∷ numbers) = All-cons IsFull (first ∷ []) (one_each numbers) (λ never. cc) (alone_full numbers)
+alone_full : (numbers : List ℕ) → All IsNonempty (one_each numbers)
+alone_full [] = All-nil IsNonempty
+alone_full (first ∷ numbers) = All-cons IsNonempty (first ∷ []) (one_each numbers) (λ never. cc) (alone_full numbers)
 
 -- no order that is found is empty
-found_full : (q : Query) → All IsFull (found_orders q)
+found_full : (q : Query) → All IsNonempty (found_orders q)
 found_full q =
     let wanted = unless_empty (wanted_order q) in
     let joined = one_each (ascending (joined_columns q)) in
-    All-append IsFull (wanted ++ joined) (unless_empty (ascending q.group_by))
-    (All-append IsFull wanted joined (unless_empty_full (wanted_order q)) (alone_full (ascending (joined_columns q))))
+    All-append IsNonempty (wanted ++ joined) (unless_empty (ascending q.group_by))
+    (All-append IsNonempty wanted joined (unless_empty_full (wanted_order q))
+    (alone_full (ascending (joined_columns q))))
     (unless_empty_full (ascending q.group_by))
 
 module _ (one : ListingIsOne) (q : Query) where
@@ -218,7 +219,7 @@ module _ (one : ListingIsOne) (q : Query) where
   no_empty_order : Contains (orders_of q) [] → ⊥
   no_empty_order contains =
       let listing = (one (found_orders q) (orders_of q)).1 refl in
-      All-contains IsFull (found_orders q) [] (found_full q) ((listing.exact []).0 contains) refl
+      All-contains IsNonempty (found_orders q) [] (found_full q) ((listing.exact []).0 contains) refl
 
   -- the order of ORDER BY has one number
   wanted_number : (order : List ℕ) (number : ℕ) → wanted_order q ≡ order → IsNumberOf (orders_of q) order number

@@ -4,7 +4,8 @@
 ghost use Rattle.query_core.specs.declared.query.Query.{Query};
 ghost use Rattle.plan_space.specs.Nodes.{Tree};
 ghost use Rattle.plan_space.specs.Order.{IsAtMost};
-ghost use Rattle.plan_space.specs.Laws.{GivesWhatFits, SatisfactionSplits, SatisfactionJoins, SatisfactionSplitsAtRoots};
+ghost use Rattle.plan_space.specs.Laws.{GivesWhatFits, SatisfactionSplits, SatisfactionJoins};
+ghost use Rattle.plan_space.specs.Laws.{SatisfactionSplitsAtRoots};
 ghost use Rattle.plan_space.specs.Laws.{AsksWhatFits, ChoicesServe, SettledIsLeast, SettledRootsAreLeast, LeastIsOne};
 ghost use Rattle.plan_space.specs.Laws.{CrossingsFit, RootRequestFits, RootRequestIsCollected, ModesAreFew};
 ghost use Rattle.plan_space.specs.Laws.{ChoiceCostsFit, EnforcersAskWhatFits, KeysFall, LeastCostsFit};

@@ -2,8 +2,8 @@
 #![tactic(auto)]
 
 ghost use Rattle.std.specs.Prelude.{◌≡◌};
-ghost use Rattle.plan_space.specs.Enforcers.{motion_to as motion_by_dist, moving as by_motion};
-ghost use Rattle.plan_space.specs.Enforcers.{merges_to as merges_by_dist, keeps_order as keeps_by_motion};
+ghost use Rattle.plan_space.specs.Enforcers.{motion_to as the_motion_to, moving as the_moving};
+ghost use Rattle.plan_space.specs.Enforcers.{merges_to as the_merges_to, keeps_order as the_keeps_order};
 ghost use Rattle.plan_space.specs.Laws.{MotionsBring, NoneMoves, MotionsServe, EnforcersAreFor, EnforcersAsk};
 
 use crate::nodes::{Enforcer, Motion};
@@ -11,7 +11,7 @@ use request_props::Dist;
 
 /// The motion that brings rows to the distribution, if one has to.
 pub fn motion_to(dist: Dist) -> Option<Motion>
-    ensures { result ≡ motion_by_dist dist }
+    ensures { result ≡ the_motion_to dist }
 {
     match dist {
         Dist::One => Some(Motion::Gather),
@@ -23,7 +23,7 @@ pub fn motion_to(dist: Dist) -> Option<Motion>
 
 /// The enforcer that moves rows so.
 pub fn moving(motion: Motion) -> Enforcer
-    ensures { result ≡ by_motion motion }
+    ensures { result ≡ the_moving motion }
 {
     match motion {
         Motion::Gather => Enforcer::Gather,
@@ -34,7 +34,7 @@ pub fn moving(motion: Motion) -> Enforcer
 
 /// Whether an order can be kept while rows are brought to the distribution.
 pub fn merges_to(dist: Dist) -> bool
-    ensures { result ≡ merges_by_dist dist }
+    ensures { result ≡ the_merges_to dist }
 {
     match motion_to(dist) {
         Some(motion) => keeps_order(motion),
@@ -43,7 +43,7 @@ pub fn merges_to(dist: Dist) -> bool
 }
 
 fn keeps_order(motion: Motion) -> bool
-    ensures { result ≡ keeps_by_motion motion }
+    ensures { result ≡ the_keeps_order motion }
 {
     match motion {
         Motion::Gather => true,

@@ -2,7 +2,7 @@
 #![tactic(auto)]
 
 ghost use Rattle.std.specs.Prelude.{◌≡◌};
-ghost use Rattle.plan_space.specs.Ways.{way_of as way_by_table};
+ghost use Rattle.plan_space.specs.Ways.{way_of as the_way_of};
 
 use query_core::{Access, KeyParts, Physical};
 
@@ -46,7 +46,7 @@ pub enum GroupBy {
 
 /// The operator's way of working.
 pub fn way_of(operator: Physical) -> Way
-    ensures { result ≡ way_by_table operator }
+    ensures { result ≡ the_way_of operator }
 {
     match operator {
         Physical::Scan => Way::Reads(Access::Direct),

@@ -19,7 +19,7 @@ use Rattle.plan_space.specs.Enforcers.{motions_of, enforcers_by, enforcers_of, A
 use Rattle.plan_space.proofs.MotionLaws.{motion_brings, enforcer_for}
 use Rattle.plan_tree.specs.Nodes.{EnforcerInRange, IsNode}
 use Rattle.plan_tree.specs.declared.enforcers.Enforced.{Enforced}
-use Rattle.plan_tree.specs.Enforcers.{LiesIn, EnforcersLie, EnforcersAreInRange, AreKept, AreBoth}
+use Rattle.plan_tree.specs.Enforcers.{LiesIn, EnforcersLie, EnforcersAreInRange, AreFitting, AreBoth}
 
 -- there is one enforcer, and it fits
 pub one_fits : (q : Query) (group : KeyParts) (e : EnforcedBy) (found : Enforced) → LiesIn q group e.node
@@ -80,7 +80,7 @@ motion_fits q group dist motion found moves lies number below =
 -- ---- where the request fits the group, all of its enforcers do
 
 kept_all : (q : Query) (group : KeyParts) (all kept : List EnforcedBy)
-    → ((e : EnforcedBy) → Among e all → LiesIn q group e.node) → AreKept q group all kept → kept ≡ all
+    → ((e : EnforcedBy) → Among e all → LiesIn q group e.node) → AreFitting q group all kept → kept ≡ all
 kept_all q group [] kept lie is = is
 kept_all q group (e ∷ others) kept lie (inl (fits, (rest, are, is))) = let same =
     kept_all q group others rest (λ f among. lie f (inr among)) are in cc
@@ -105,7 +105,7 @@ enforcer_lies q group wanted e fits among = elim (enforcer_for wanted e among) [
 
 -- so these are all that are kept
 pub fitting_kept : (q : Query) (group : KeyParts) (wanted : Request) (kept : List EnforcedBy) → Fits q group wanted
-    → AreKept q group (enforcers_of wanted) kept → kept ≡ enforcers_of wanted
+    → AreFitting q group (enforcers_of wanted) kept → kept ≡ enforcers_of wanted
 fitting_kept q group wanted kept fits are =
     kept_all q group (enforcers_of wanted) kept (λ e among. enforcer_lies q group wanted e fits among) are
 

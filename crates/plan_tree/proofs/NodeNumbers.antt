@@ -9,7 +9,7 @@ use Rattle.plan_space.specs.declared.nodes.Enforcer.{Enforcer}
 use Rattle.plan_space.specs.declared.nodes.Enforcer.TheVariants.{Gather, Broadcast, Sort, GatherMerge, Redistribute}
 use Rattle.plan_space.specs.declared.nodes.NodeKind.{NodeKind}
 use Rattle.plan_space.specs.declared.nodes.NodeKind.TheVariants as nodes
-use Rattle.plan_tree.specs.Nodes.{EnforcerInRange, IsInRange, NativeInRange}
+use Rattle.plan_tree.specs.Nodes.{EnforcerInRange, IsNodeInRange, NativeInRange}
 
 same_fields : (w v m o : ℕ) → m < 256 → o < 256 → 72057594037927936 + w * 256 + m ≡ 72057594037927936 + v * 256 + o
     → (w ≡ v) × (m ≡ o)
@@ -42,7 +42,7 @@ enforcer_one (Redistribute o) (Redistribute p) x y same = let number_is : o ≡ 
 enforcer_one e f x y same = absurd (omega arith)
 
 pub number_names_one : ((e f : ExprParts) → IsPacked e → IsPacked f → word_of e ≡ word_of f → e ≡ f) → (k l : NodeKind)
-    → IsInRange k → IsInRange l → number_of k ≡ number_of l → k ≡ l
+    → IsNodeInRange k → IsNodeInRange l → number_of k ≡ number_of l → k ≡ l
 number_names_one one (nodes.Native e mode) (nodes.Native f other) x y same = native_one one e f mode other x y same
 number_names_one one (nodes.Native e mode) (nodes.Enforcer f) x y same = let small = enforcer_small f y in
     absurd (omega arith)
@@ -55,7 +55,7 @@ pub no_kind : (n : ℕ) → ((e : PhysicalExpr) (mode : ℕ) → NativeInRange e
     → n ≢ 1 → n ≢ 2
     → ((o : ℕ) → 1 ≤ o → o ≤ 60 → n ≢ 64 + o) → ((o : ℕ) → 1 ≤ o → o ≤ 60 → n ≢ 128 + o)
     → ((o : ℕ) → o < 60 → n ≢ 192 + o)
-    → (kind : NodeKind) → IsInRange kind → n ≢ number_of kind
+    → (kind : NodeKind) → IsNodeInRange kind → n ≢ number_of kind
 no_kind n no_native no_gather no_broadcast no_sort no_merge no_move (nodes.Native e mode) in_range is =
     no_native e mode in_range is
 no_kind n no_native no_gather no_broadcast no_sort no_merge no_move (nodes.Enforcer Gather) in_range is = no_gather is

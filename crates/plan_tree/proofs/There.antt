@@ -9,7 +9,7 @@ use Rattle.request_props.specs.declared.request.Request.{Request}
 use Rattle.plan_space.specs.declared.nodes.NodeKind.TheVariants as nodes
 use Rattle.plan_space.specs.Enforcers.{EnforcedBy, enforcers_of, Among}
 use Rattle.plan_tree.specs.Alternatives.{IsAltOf, IsAltAt}
-use Rattle.plan_tree.specs.Enforcers.{AreKept, IsEnforced, AreBoth}
+use Rattle.plan_tree.specs.Enforcers.{AreFitting, IsEnforced, AreBoth}
 use Rattle.plan_tree.specs.NodeCosts.{IsThere}
 use Rattle.plan_tree.specs.declared.alternatives.Alt.{Alt}
 use Rattle.plan_tree.specs.declared.enforcers.Enforced.{Enforced}
@@ -31,7 +31,7 @@ alt_is_there q e wanted place (Some alt) candidate is =
     alt_of_mode q e wanted (slice_get is.modes place) alt candidate is.at_place
 
 -- each enforcer that is kept is one of all
-kept_among : (q : Query) (group : KeyParts) (all kept : List EnforcedBy) (e : EnforcedBy) → AreKept q group all kept
+kept_among : (q : Query) (group : KeyParts) (all kept : List EnforcedBy) (e : EnforcedBy) → AreFitting q group all kept
     → Among e kept → Among e all
 kept_among q group [] kept e is among = subst (Among e) is among
 kept_among q group (first ∷ others) kept e (inl (lies, (rest, are, same))) among =
@@ -55,7 +55,7 @@ enforced_among q wanted (first ∷ kept) (suc place) found all is =
 
 enforcer_at : (q : Query) (group : KeyParts) (wanted : Request) (kept : List EnforcedBy) (place : ℕ)
     (found : Option Enforced)
-    → AreKept q group (enforcers_of wanted) kept → IsEnforced found (slice_get kept place)
+    → AreFitting q group (enforcers_of wanted) kept → IsEnforced found (slice_get kept place)
     → IfSome found (λ f. IsThere q wanted f.node)
 enforcer_at q group wanted kept place None are is = tt
 enforcer_at q group wanted kept place (Some found) are is =

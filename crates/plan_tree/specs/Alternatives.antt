@@ -2,7 +2,7 @@
 use Rattle.std.specs.Prelude.{ℕ, ◌≡◌, ◌↔◌, List, [], ◌∷◌, Option, None, Some, slice_get}
 use Rattle.std.specs.List.{Contains}
 use Rattle.std.specs.List.Sorted.{IsStrictlyIncreasing}
-use Rattle.query_core.specs.Keys.{Names}
+use Rattle.query_core.specs.Keys.{NamesGroup}
 use Rattle.query_core.specs.declared.query.Query.{Query}
 use Rattle.query_core.specs.declared.words.Key.{Key}
 use Rattle.query_core.specs.declared.words.KeyParts.{KeyParts}
@@ -28,7 +28,7 @@ MayGive q (Beside left order request) dist = DistServes q left dist
 -- the key of this group, of which this is asked
 abbrev pub Asks : Query → Option (Key × Request) → KeyParts → Request → Type 0
 Asks q None group wanted = ⊥
-Asks q (Some asked) group wanted = Names q asked.0 group × (asked.1 ≡ wanted)
+Asks q (Some asked) group wanted = NamesGroup q asked.0 group × (asked.1 ≡ wanted)
 
 -- the same for a group and a request that may not be there
 abbrev pub IsAsk : Query → Option (Key × Request) → Option KeyParts → Option Request → Type 0

@@ -32,11 +32,11 @@ EnforcersAreInRange q =
     → Fits q group wanted → Among e (enforcers_of wanted) → EnforcerInRange e.node
 
 -- those of the enforcers that fit the group, in the same order
-abbrev pub AreKept : Query → KeyParts → List EnforcedBy → List EnforcedBy → Type 0
-AreKept q group [] kept = kept ≡ []
-AreKept q group (first ∷ others) kept =
-    (LiesIn q group first.node × ((rest : List EnforcedBy) × AreKept q group others rest × (kept ≡ first ∷ rest)))
-    ⊎ ((LiesIn q group first.node → ⊥) × AreKept q group others kept)
+abbrev pub AreFitting : Query → KeyParts → List EnforcedBy → List EnforcedBy → Type 0
+AreFitting q group [] kept = kept ≡ []
+AreFitting q group (first ∷ others) kept =
+    (LiesIn q group first.node × ((rest : List EnforcedBy) × AreFitting q group others rest × (kept ≡ first ∷ rest)))
+    ⊎ ((LiesIn q group first.node → ⊥) × AreFitting q group others kept)
 
 -- the program's enforcer is this one, or there is none
 abbrev pub IsEnforced : Option Enforced → Option EnforcedBy → Type 0
@@ -49,14 +49,14 @@ IsEnforced (Some found) (Some e) = IsNode found.node (nodes.Enforcer e.node) × 
 pub record IsEnforcerAt (q : Query) (group : KeyParts) (wanted : Request) (place : ℕ) (found : Option Enforced) : Type 0
   where
     pub kept : List EnforcedBy
-    pub are_kept : AreKept q group (enforcers_of wanted) kept
+    pub are_kept : AreFitting q group (enforcers_of wanted) kept
     pub at_place : IsEnforced found (slice_get kept place)
 
 -- of these enforcers at most two fit the group, and these are the first and the second that do
 pub record AreBoth (q : Query) (group : KeyParts) (all : List EnforcedBy) (first second : Option Enforced) : Type 0
   where
     pub kept : List EnforcedBy
-    pub are_kept : AreKept q group all kept
+    pub are_kept : AreFitting q group all kept
     pub few : length kept ≤ 2
     pub is_first : IsEnforced first (slice_get kept 0)
     pub is_second : IsEnforced second (slice_get kept 1)

@@ -28,11 +28,11 @@ EnforcerInRange (GatherMerge order) = OrderInRange order
 EnforcerInRange (Redistribute list) = list < 60
 
 -- the node has a number that no other node has
-abbrev pub IsInRange : NodeKind → Type 0
-IsInRange (nodes.Native expr mode) = NativeInRange expr mode
-IsInRange (nodes.Enforcer enforcer) = EnforcerInRange enforcer
+abbrev pub IsNodeInRange : NodeKind → Type 0
+IsNodeInRange (nodes.Native expr mode) = NativeInRange expr mode
+IsNodeInRange (nodes.Enforcer enforcer) = EnforcerInRange enforcer
 
 -- the program's node is this one
 pub record IsNode (node : Node) (kind : NodeKind) : Type 0 where
   pub number : node.0 ≡ number_of kind
-  pub in_range : IsInRange kind
+  pub in_range : IsNodeInRange kind

@@ -7,11 +7,11 @@ use Rattle.plan_space.specs.declared.nodes.NodeKind.{NodeKind}
 use Rattle.plan_space.specs.declared.nodes.NodeKind.TheVariants as nodes
 use Rattle.plan_space.specs.declared.seen.Kid.{Kid}
 use Rattle.plan_space.specs.Gives.{kid_of}
-use Rattle.plan_tree.specs.declared.seen.Below.{Below}
-use Rattle.plan_tree.specs.declared.seen.Below.TheVariants.{Nothing, One, Two}
+use Rattle.plan_tree.specs.declared.seen.Kids.{Kids}
+use Rattle.plan_tree.specs.declared.seen.Kids.TheVariants.{Nothing, One, Two}
 
 -- what is seen of each plan below, the left one first
-abbrev pub kids_seen : Below → List Kid
+abbrev pub kids_seen : Kids → List Kid
 kids_seen Nothing = []
 kids_seen (One kid) = kid ∷ []
 kids_seen (Two left right) = left ∷ right ∷ []
@@ -34,7 +34,7 @@ HasGroup q (nodes.Native e mode) = IsGroup q e.group
 HasGroup q (nodes.Enforcer e) = ⊤
 
 -- the groups of the plans below are groups of the query
-abbrev pub HaveGroups : Query → Below → Type 0
+abbrev pub HaveGroups : Query → Kids → Type 0
 HaveGroups q Nothing = ⊤
 HaveGroups q (One kid) = IsGroup q kid.group
 HaveGroups q (Two left right) = IsGroup q left.group × IsGroup q right.group

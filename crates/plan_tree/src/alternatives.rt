@@ -4,15 +4,15 @@
 ghost use Rattle.std.specs.Prelude.{ℕ, ◌≡◌, ◌<◌, IsTrue, List, None, Some, IfSome};
 ghost use Rattle.query_core.specs.declared.query.Query.{Query as AnyQuery};
 ghost use Rattle.query_core.specs.declared.expressions.ExprParts.{ExprParts};
-ghost use Rattle.query_core.specs.declared.expressions.PhysicalExpr.{PhysicalExpr as Parts};
+ghost use Rattle.query_core.specs.declared.expressions.PhysicalExpr.{PhysicalExpr as AnyPhysicalExpr};
 ghost use Rattle.request_props.specs.declared.request.Request.{Request as AnyRequest};
 ghost use Rattle.query_core.specs.Keys.{IsGroup};
-ghost use Rattle.query_core.specs.declared.words.KeyParts.{KeyParts as Group};
+ghost use Rattle.query_core.specs.declared.words.KeyParts.{KeyParts as AnyKeyParts};
 ghost use Rattle.query_core.specs.Expressions.{HasWord, IsCandidate, IsCandidateWord, IsChild, expr_of, is_logical};
 ghost use Rattle.request_props.specs.Numbered.{IsProps, IsNumbered};
 ghost use Rattle.plan_space.specs.Alternatives.{IsAlternative, LineServes, asked_of};
 ghost use Rattle.plan_space.specs.Nodes.{node_modes};
-ghost use Rattle.plan_space.specs.Lines.{line_of as line_by_table};
+ghost use Rattle.plan_space.specs.Lines.{line_of as the_line_of};
 ghost use Rattle.plan_space.specs.Choices.{groups_of};
 ghost use Rattle.plan_tree.specs.Alternatives.{AreAsked, AreModes, IsAltAt, IsAltBy, IsAltIn, IsAsk};
 ghost use Rattle.plan_tree.specs.NodeCosts.{IsThere};
@@ -66,7 +66,7 @@ pub fn alternative_by(
     requires candidate { IsCandidate query.now (expr_of expr) }
     requires numbered { IsNumbered query.now request.order }
     requires few { mode < node_modes }
-    requires line { line_by_table query.now expr mode ≡ Some line }
+    requires line { the_line_of query.now expr mode ≡ Some line }
     ensures { IsAltIn query.now expr request mode result }
 {
     if serves(query, props, line, expr.children(), request) {
@@ -106,7 +106,7 @@ pub fn alternative(
     requires props { IsProps query.now props.now }
     requires candidate { IsCandidateWord query.now expr.0 }
     requires numbered { IsNumbered query.now request.order }
-    ensures physical { (e : Parts) → HasWord expr.0 (expr_of e) →
+    ensures physical { (e : AnyPhysicalExpr) → HasWord expr.0 (expr_of e) →
         IsAltAt query.now e request n result }
     ensures logical { (e : ExprParts) → HasWord expr.0 e → IsTrue (is_logical e.operator) →
         result ≡ None }
@@ -156,13 +156,13 @@ pub fn alternative_of(
 
 /// The modes in which an expression may serve a request are one list.
 pub fn modes_are_one()
-    ensures { (q : AnyQuery) (e : Parts) (wanted : AnyRequest) (modes others : List ℕ) →
+    ensures { (q : AnyQuery) (e : AnyPhysicalExpr) (wanted : AnyRequest) (modes others : List ℕ) →
         AreModes q e wanted modes → AreModes q e wanted others → modes ≡ others }
 {}
 
 // What the line asks of the children.
 fn alt_over(query: &Query, node: Node, line: Line, children: Children, request: Request) -> Alt
-    requires known { (g : Group) → IsChild children g → IsGroup query.now g }
+    requires known { (g : AnyKeyParts) → IsChild children g → IsGroup query.now g }
     requires serves { LineServes query.now line children request }
     ensures node { result.node ≡ node }
     ensures asks { AreAsked query.now result (groups_of children)

@@ -3,7 +3,7 @@
 
 ghost use Rattle.std.specs.Prelude.{ℕ, ◌≡◌, ◌<◌, ◌↔◌, IsTrue};
 ghost use Rattle.query_core.specs.declared.expressions.Children.TheVariants.{One};
-ghost use Rattle.query_core.specs.declared.words.KeyParts.{KeyParts as Group};
+ghost use Rattle.query_core.specs.declared.words.KeyParts.{KeyParts as AnyKeyParts};
 ghost use Rattle.request_props.specs.NumberSets.{IsInSet};
 ghost use Rattle.request_props.specs.Numbered.{IsProps, is_grouped_list};
 ghost use Rattle.request_props.specs.Satisfied.{Meets};
@@ -25,7 +25,7 @@ use request_props::{Dist, GivenDist, GivenOrder, NumberSet, Props, Request, meet
 /// The modes in which what passes these rows on gives what is asked for.
 pub fn kept_modes(query: &Query, props: &Props, kept: Kept, wanted: Request) -> ModeSets
     requires { IsProps query.now props.now }
-    ensures { (child : Group) (mode : Mode) → HasModeIn result mode ↔
+    ensures { (child : AnyKeyParts) (mode : Mode) → HasModeIn result mode ↔
         ServesBy query.now (single_line (kept_line kept) mode) (One child) wanted }
 {
     if kept_serves(query, props, kept, wanted) {
@@ -39,7 +39,7 @@ pub fn kept_modes(query: &Query, props: &Props, kept: Kept, wanted: Request) -> 
 // Whether it does: all rows are as the child has them, and spread rows are in no order.
 fn kept_serves(query: &Query, props: &Props, kept: Kept, wanted: Request) -> bool
     requires { IsProps query.now props.now }
-    ensures { (child : Group) → IsTrue result ↔
+    ensures { (child : AnyKeyParts) → IsTrue result ↔
         LineServes query.now (kept_line kept) (One child) wanted }
 {
     match kept {
@@ -55,7 +55,7 @@ fn kept_serves(query: &Query, props: &Props, kept: Kept, wanted: Request) -> boo
 /// that is grouped and whose hash is as asked.
 pub fn group_modes(query: &Query, props: &Props, order: u32, wanted: Request) -> ModeSets
     requires { IsProps query.now props.now }
-    ensures { (child : Group) (mode : Mode) → HasModeIn result mode ↔
+    ensures { (child : AnyKeyParts) (mode : Mode) → HasModeIn result mode ↔
         ServesBy query.now (agg_line query.now order mode) (One child) wanted }
 {
     if order_is_given(query, props, GivenOrder::Listed(order), wanted.order) {

@@ -2,22 +2,22 @@
 #![tactic(auto)]
 
 ghost use Rattle.std.specs.Prelude.{ℕ, ◌≡◌, ◌≤◌, Option, Some, IfSome};
-ghost use Rattle.query_core.specs.declared.words.KeyParts.{KeyParts as Group};
+ghost use Rattle.query_core.specs.declared.words.KeyParts.{KeyParts as AnyKeyParts};
 ghost use Rattle.query_core.specs.Keys.{IsGroup};
 ghost use Rattle.query_core.specs.Expressions.{IsCandidate, expr_of, physical_children};
 ghost use Rattle.cardinality.specs.Rows.{rows_of};
-ghost use Rattle.cost_units.specs.Cost.{IsBounded, most_rows, most_cost, share as share_of_rows};
+ghost use Rattle.cost_units.specs.Cost.{IsBounded, most_rows, most_cost, share as the_share};
 ghost use Rattle.request_props.specs.Numbered.{IsProps};
 ghost use Rattle.plan_space.specs.Alternatives.{asked_of};
 ghost use Rattle.plan_space.specs.Choices.{groups_of};
-ghost use Rattle.plan_space.specs.Lines.{line_of as line_by_table};
-ghost use Rattle.plan_space.specs.Cost.{operator_shape as shape_by_operator, share_of};
+ghost use Rattle.plan_space.specs.Lines.{line_of as the_line_of};
+ghost use Rattle.plan_space.specs.Cost.{operator_shape as the_operator_shape, share_of};
 ghost use Rattle.plan_space.specs.declared.nodes.Enforcer.{Enforcer as AnyEnforcer};
 ghost use Rattle.plan_space.specs.declared.nodes.NodeKind.TheVariants.{Enforcer as enforcing};
 ghost use Rattle.plan_tree.specs.Nodes.{IsNode};
 ghost use Rattle.plan_tree.specs.Costs.{IsNativeCost, IsEnforcerCost, IsCostAmong};
-ghost use Rattle.request_props.specs.Dists.{class_asked as class_by_dist};
-ghost use Rattle.plan_tree.specs.Costs.{first_asked, second_asked, share_asked as share_by_request};
+ghost use Rattle.request_props.specs.Dists.{class_asked as the_class_asked};
+ghost use Rattle.plan_tree.specs.Costs.{first_asked, second_asked, share_asked as the_share_asked};
 ghost use Rattle.plan_tree.specs.Costs.{AreRowsOf, rows_if};
 
 use crate::enforcers::asked_by;
@@ -80,7 +80,7 @@ pub fn native_cost_by(
     request: Request,
 ) -> u64
     requires rows { AreRowsOf query.now expr rows }
-    ensures value { (mode : ℕ) → line_by_table query.now expr mode ≡ Some line →
+    ensures value { (mode : ℕ) → the_line_of query.now expr mode ≡ Some line →
         IsNativeCost query.now expr mode request result }
     ensures some { 1 ≤ result }
     ensures most { result ≤ most_cost }
@@ -109,7 +109,7 @@ pub fn enforcer_cost(
 /// The cost of an enforcer for the request, over plans of a group with so many rows.
 pub fn enforcer_cost_by(query: &Query, rows: u64, request: Request, node: Node) -> u64
     requires { rows ≤ most_rows }
-    ensures value { (g : Group) (e : AnyEnforcer) → rows ≡ rows_of query.now g →
+    ensures value { (g : AnyKeyParts) (e : AnyEnforcer) → rows ≡ rows_of query.now g →
         IsNode node (enforcing e) → IsCostAmong query.now e g request result }
     ensures some { 1 ≤ result }
     ensures most { result ≤ most_cost }
@@ -124,7 +124,7 @@ pub fn enforcer_cost_by(query: &Query, rows: u64, request: Request, node: Node) 
 // The cost of an enforcer for the request, over so many rows.
 fn cost_among(query: &Query, enforcer: Enforcer, rows: u64, request: Request) -> u64
     requires { rows ≤ most_rows }
-    ensures value { (g : Group) → rows ≡ rows_of query.now g →
+    ensures value { (g : AnyKeyParts) → rows ≡ rows_of query.now g →
         IsCostAmong query.now enforcer g request result }
     ensures some { 1 ≤ result }
     ensures most { result ≤ most_cost }
@@ -135,7 +135,7 @@ fn cost_among(query: &Query, enforcer: Enforcer, rows: u64, request: Request) ->
 // The cost of an enforcer over so many rows that lie as asked.
 fn cost_over(query: &Query, enforcer: Enforcer, rows: u64, below: Request) -> u64
     requires { rows ≤ most_rows }
-    ensures value { (g : Group) → rows ≡ rows_of query.now g →
+    ensures value { (g : AnyKeyParts) → rows ≡ rows_of query.now g →
         IsEnforcerCost query.now enforcer g below result }
     ensures some { 1 ≤ result }
     ensures most { result ≤ most_cost }
@@ -161,10 +161,10 @@ fn native_shape(
     request: Request,
 ) -> CostShape
     requires { AreRowsOf query.now expr rows }
-    ensures value { result ≡ shape_by_operator expr.operator
+    ensures value { result ≡ the_operator_shape expr.operator
         (first_asked query.now (groups_of (physical_children expr.operator)) (asked_of line request))
         (second_asked query.now (groups_of (physical_children expr.operator)) (asked_of line request))
-        (share_of query.now expr.group (class_by_dist request.dist)) }
+        (share_of query.now expr.group (the_class_asked request.dist)) }
     ensures bounded { IsBounded result }
 {
     let left = child_share(query, rows.left, asked_left(line, request));
@@ -179,7 +179,7 @@ pub fn operator_shape(operator: Physical, left: u64, right: u64, out: u64) -> Co
     requires left { left ≤ most_rows }
     requires right { right ≤ most_rows }
     requires out { out ≤ most_rows }
-    ensures value { result ≡ shape_by_operator operator left right out }
+    ensures value { result ≡ the_operator_shape operator left right out }
     ensures bounded { IsBounded result }
 {
     match operator {
@@ -199,8 +199,8 @@ pub fn operator_shape(operator: Physical, left: u64, right: u64, out: u64) -> Co
 // The share of a child with so many rows by what is asked of it; 0 where there is none.
 fn child_share(query: &Query, rows: u64, asked: Option<Request>) -> u64
     requires { rows ≤ most_rows }
-    ensures value { (group : Option Group) → rows ≡ rows_if query.now group →
-        result ≡ share_by_request query.now group asked }
+    ensures value { (group : Option AnyKeyParts) → rows ≡ rows_if query.now group →
+        result ≡ the_share_asked query.now group asked }
     ensures most { result ≤ most_rows }
 {
     match asked {
@@ -212,7 +212,7 @@ fn child_share(query: &Query, rows: u64, asked: Option<Request>) -> u64
 // The share of so many rows that lie as asked.
 fn rows_share(query: &Query, rows: u64, dist: Dist) -> u64
     requires { rows ≤ most_rows }
-    ensures value { result ≡ share_of_rows rows (class_by_dist dist) query.now.segments }
+    ensures value { result ≡ the_share rows (the_class_asked dist) query.now.segments }
     ensures most { result ≤ most_rows }
 {
     share(rows, class_asked(dist), query.segments)

@@ -2,13 +2,13 @@
 #![tactic(auto)]
 
 ghost use Rattle.std.specs.Prelude.{◌≡◌, ◌↔◌, IsTrue, None, IfSome, slice_get};
-ghost use Rattle.query_core.specs.Keys.{IsKey, Names};
+ghost use Rattle.query_core.specs.Keys.{IsKey, NamesGroup};
 ghost use Rattle.query_core.specs.declared.query.Query.{Query as AnyQuery};
-ghost use Rattle.query_core.specs.declared.words.KeyParts.{KeyParts as Group};
+ghost use Rattle.query_core.specs.declared.words.KeyParts.{KeyParts as AnyKeyParts};
 ghost use Rattle.request_props.specs.Numbered.{IsProps};
 ghost use Rattle.request_props.specs.Fitting.{Fits};
 ghost use Rattle.plan_space.specs.Enforcers.{Among, EnforcedBy, below_of, enforcers_of, motions_of};
-ghost use Rattle.plan_space.specs.Enforcers.{moving as by_motion};
+ghost use Rattle.plan_space.specs.Enforcers.{moving as the_moving};
 ghost use Rattle.plan_space.specs.declared.nodes.NodeKind.TheVariants.{Enforcer as enforcing};
 ghost use Rattle.plan_tree.specs.Nodes.{EnforcerInRange, IsNode};
 ghost use Rattle.plan_tree.specs.Enforcers.{AreBoth, IsEnforced, IsEnforcerAt, LiesIn};
@@ -37,9 +37,9 @@ pub fn enforcer(
 ) -> Option<Enforced>
     requires props { IsProps query.now props.now }
     requires key { IsKey query.now key }
-    ensures at_place { (g : Group) → Names query.now key g →
+    ensures at_place { (g : AnyKeyParts) → NamesGroup query.now key g →
         IsEnforcerAt query.now g request n result }
-    ensures fitting { (g : Group) → Names query.now key g → Fits query.now g request →
+    ensures fitting { (g : AnyKeyParts) → NamesGroup query.now key g → Fits query.now g request →
         IsEnforced result (slice_get (enforcers_of request) n) }
     ensures there { IfSome result (λ found. IsThere query.now request found.node) }
 {
@@ -154,7 +154,7 @@ fn motion(query: &Query, props: &Props, group: KeyParts, request: Request) -> Op
 // Whether what the motion moves by lies in the group.
 fn lies_in(query: &Query, props: &Props, group: KeyParts, motion: Motion) -> bool
     requires { IsProps query.now props.now }
-    ensures { IsTrue result ↔ LiesIn query.now group (by_motion motion) }
+    ensures { IsTrue result ↔ LiesIn query.now group (the_moving motion) }
 {
     match motion {
         Motion::Gather => true,

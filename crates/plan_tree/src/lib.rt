@@ -28,7 +28,7 @@ pub use lines::{is_replicated, line_of};
 pub use node::{Node, nodes_are_one};
 pub use node_costs::node_cost;
 pub use plan::{Found, Plan};
-pub use seen::{Below, given_satisfies, plan_seen, seen_above, seen_below};
+pub use seen::{Kids, given_satisfies, plan_seen, seen_above, seen_below};
 pub use seen_cost::{cost_above, cost_above_any, rows_above};
 pub use serving::may_give;
 pub use serving_modes::{may_serve, modes_to_try, next_alternative};

@@ -3,17 +3,17 @@
 
 ghost use Rattle.std.specs.Prelude.{ℕ, ◌≡◌, slice_get, length};
 ghost use Rattle.request_props.specs.Numbered.{IsProps, side_of};
-ghost use Rattle.plan_space.specs.Lines.{line_of as line_by_table, table_line as line_of_table};
-ghost use Rattle.plan_space.specs.Lines.{way_line as line_by_way, order_read as order_by_access};
-ghost use Rattle.plan_space.specs.Lines.{kept_line as line_kept, grouped_order as order_grouped};
-ghost use Rattle.plan_space.specs.Lines.{join_line as join_line_by_table};
-ghost use Rattle.plan_space.specs.Lines.{hash_line as hash_line_by_table, merge_line as merge_line_by_table};
-ghost use Rattle.plan_space.specs.Lines.{loop_line as loop_line_by_table, agg_line as agg_line_by_table};
-ghost use Rattle.plan_space.specs.Lines.{hash_colocated as hash_line_with, merge_with as merge_line_with};
-ghost use Rattle.plan_space.specs.Lines.{only_line as only_by_table, single_line as single_by_table};
-ghost use Rattle.plan_space.specs.Lines.{merge_colocated as merge_line_hashed};
+ghost use Rattle.plan_space.specs.Lines.{line_of as the_line_of, table_line as the_table_line};
+ghost use Rattle.plan_space.specs.Lines.{way_line as the_way_line, order_read as the_order_read};
+ghost use Rattle.plan_space.specs.Lines.{kept_line as the_kept_line, grouped_order as the_grouped_order};
+ghost use Rattle.plan_space.specs.Lines.{join_line as the_join_line};
+ghost use Rattle.plan_space.specs.Lines.{hash_line as the_hash_line, merge_line as the_merge_line};
+ghost use Rattle.plan_space.specs.Lines.{loop_line as the_loop_line, agg_line as the_agg_line};
+ghost use Rattle.plan_space.specs.Lines.{hash_colocated as the_hash_colocated, merge_with as the_merge_with};
+ghost use Rattle.plan_space.specs.Lines.{only_line as the_only_line, single_line as the_single_line};
+ghost use Rattle.plan_space.specs.Lines.{merge_colocated as the_merge_colocated};
 ghost use Rattle.plan_space.specs.Lines.{on_one, on_hashed, in_order};
-ghost use Rattle.plan_space.specs.Lines.{is_replicated as has_copies, replica_dists, dists_of_table};
+ghost use Rattle.plan_space.specs.Lines.{is_replicated as the_is_replicated, replica_dists, dists_of_table};
 
 use plan_space::{GroupBy, JoinBy, Kept, LeftDist, LeftOrder, Line, Mode, Way, way_of};
 use query_core::{Access, KeyParts, PhysicalExpr, Query, table_in};
@@ -22,7 +22,7 @@ use request_props::{Dist, GivenDist, GivenOrder, Props, Request, Side};
 /// The line of an expression in the mode of a number, if it has the mode.
 pub fn line_of(query: &Query, props: &Props, expr: PhysicalExpr, mode: u32) -> Option<Line>
     requires { IsProps query.now props.now }
-    ensures { result ≡ line_by_table query.now expr mode }
+    ensures { result ≡ the_line_of query.now expr mode }
 {
     line_by(
         query,
@@ -36,7 +36,7 @@ pub fn line_of(query: &Query, props: &Props, expr: PhysicalExpr, mode: u32) -> O
 // The line of a group's way of working in a mode, if it has the mode.
 fn line_by(query: &Query, props: &Props, group: KeyParts, way: Way, mode: Mode) -> Option<Line>
     requires { IsProps query.now props.now }
-    ensures { result ≡ line_by_way query.now group way mode }
+    ensures { result ≡ the_way_line query.now group way mode }
 {
     match way {
         Way::Reads(access) => table_line(query, props, group, order_read(group, access), mode),
@@ -48,7 +48,7 @@ fn line_by(query: &Query, props: &Props, group: KeyParts, way: Way, mode: Mode) 
 
 /// In no order, or in that of the index of this number of the group's table.
 pub fn order_read(group: KeyParts, access: Access) -> GivenOrder
-    ensures { result ≡ order_by_access group access }
+    ensures { result ≡ the_order_read group access }
 {
     match access {
         Access::Direct => GivenOrder::Listed(0),
@@ -58,7 +58,7 @@ pub fn order_read(group: KeyParts, access: Access) -> GivenOrder
 
 // All rows where they lie and in their order, or rows that are shared out, in no order.
 fn kept_line(kept: Kept) -> Line
-    ensures { result ≡ line_kept kept }
+    ensures { result ≡ the_kept_line kept }
 {
     match kept {
         Kept::Rows => Line::Above(LeftDist::Same, LeftOrder::Same),
@@ -76,7 +76,7 @@ fn join_line(
     mode: Mode,
 ) -> Option<Line>
     requires { IsProps query.now props.now }
-    ensures { result ≡ join_line_by_table query.now by left right mode }
+    ensures { result ≡ the_join_line query.now by left right mode }
 {
     match by {
         JoinBy::Hashing => hash_line(query, props, left, right, mode),
@@ -88,7 +88,7 @@ fn join_line(
 /// The order in which rows are grouped.
 pub fn grouped_order(query: &Query, props: &Props, by: GroupBy) -> u32
     requires { IsProps query.now props.now }
-    ensures { result ≡ order_grouped query.now by }
+    ensures { result ≡ the_grouped_order query.now by }
 {
     match by {
         GroupBy::Hashing => 0,
@@ -98,14 +98,14 @@ pub fn grouped_order(query: &Query, props: &Props, by: GroupBy) -> u32
 
 // A line where the number is 0.
 fn only_line(line: Line, number: u32) -> Option<Line>
-    ensures { result ≡ only_by_table line number }
+    ensures { result ≡ the_only_line line number }
 {
     if number == 0 { Some(line) } else { None }
 }
 
 // One line, in one mode.
 fn single_line(line: Line, mode: Mode) -> Option<Line>
-    ensures { result ≡ single_by_table line mode }
+    ensures { result ≡ the_single_line line mode }
 {
     match mode {
         Mode::Plain(number) => only_line(line, number),
@@ -116,7 +116,7 @@ fn single_line(line: Line, mode: Mode) -> Option<Line>
 
 /// Whether all rows of the table lie on each segment.
 pub fn is_replicated(query: &Query, table: u32) -> bool
-    ensures { result ≡ has_copies query.now table }
+    ensures { result ≡ the_is_replicated query.now table }
 {
     match query.tables.as_slice().get(table as usize) {
         Some(found) => found.replicated,
@@ -167,7 +167,7 @@ fn table_line(
     mode: Mode,
 ) -> Option<Line>
     requires { IsProps query.now props.now }
-    ensures { result ≡ line_of_table query.now group order mode }
+    ensures { result ≡ the_table_line query.now group order mode }
 {
     match mode {
         Mode::Plain(number) => {
@@ -183,7 +183,7 @@ fn table_line(
 // each list over rows that are hashed by it.
 fn agg_line(query: &Query, props: &Props, order: u32, mode: Mode) -> Option<Line>
     requires { IsProps query.now props.now }
-    ensures { result ≡ agg_line_by_table query.now order mode }
+    ensures { result ≡ the_agg_line query.now order mode }
 {
     match mode {
         Mode::Plain(number) => only_line(Line::Above(left_on_one(), left_in_order(order)), number),
@@ -208,7 +208,7 @@ fn hash_line(
     mode: Mode,
 ) -> Option<Line>
     requires { IsProps query.now props.now }
-    ensures { result ≡ hash_line_by_table query.now left right mode }
+    ensures { result ≡ the_hash_line query.now left right mode }
 {
     match mode {
         Mode::Plain(number) => {
@@ -232,7 +232,7 @@ fn hash_line(
 // A hash join of rows that are hashed alike on the two sides of an equality.
 fn hash_colocated(query: &Query, left: Side, right: Side) -> Line
     ensures { (a b : ℕ) → left ≡ side_of query.now a → right ≡ side_of query.now b →
-        result ≡ hash_line_with query.now (a, b) }
+        result ≡ the_hash_colocated query.now (a, b) }
 {
     Line::Beside(
         left_on_hashed(left.list),
@@ -251,7 +251,7 @@ fn merge_line(
     mode: Mode,
 ) -> Option<Line>
     requires { IsProps query.now props.now }
-    ensures { result ≡ merge_line_by_table query.now left right mode }
+    ensures { result ≡ the_merge_line query.now left right mode }
 {
     match mode {
         Mode::Plain(number) => {
@@ -272,7 +272,7 @@ fn merge_line(
 // A merge join of rows in the order of the two sides of an equality.
 fn merge_with(query: &Query, dist: LeftDist, asked: Dist, left: Side, right: Side) -> Line
     ensures { (a b : ℕ) → left ≡ side_of query.now a → right ≡ side_of query.now b →
-        result ≡ merge_line_with query.now dist asked (a, b) }
+        result ≡ the_merge_with query.now dist asked (a, b) }
 {
     let needed = Request {
         dist: asked,
@@ -284,7 +284,7 @@ fn merge_with(query: &Query, dist: LeftDist, asked: Dist, left: Side, right: Sid
 // And that are hashed alike on them.
 fn merge_colocated(query: &Query, left: Side, right: Side) -> Line
     ensures { (a b : ℕ) → left ≡ side_of query.now a → right ≡ side_of query.now b →
-        result ≡ merge_line_hashed query.now (a, b) }
+        result ≡ the_merge_colocated query.now (a, b) }
 {
     merge_with(
         query,
@@ -297,7 +297,7 @@ fn merge_colocated(query: &Query, left: Side, right: Side) -> Line
 
 // A loop join: on one segment, or with copies of the right side; it keeps the left child's order.
 fn loop_line(mode: Mode) -> Option<Line>
-    ensures { result ≡ loop_line_by_table mode }
+    ensures { result ≡ the_loop_line mode }
 {
     match mode {
         Mode::Plain(number) => {

@@ -2,11 +2,11 @@
 #![tactic(auto)]
 
 ghost use Rattle.std.specs.Prelude.{ℕ, ◌≡◌, ◌≢◌, ◌↔◌, Some, IfNone, IfSome};
-ghost use Rattle.query_core.specs.declared.expressions.PhysicalExpr.{PhysicalExpr as Physical};
-ghost use Rattle.plan_space.specs.Nodes.{enforcer_number as number_of_enforcer, number_of};
-ghost use Rattle.plan_space.specs.declared.nodes.NodeKind.{NodeKind as Kind};
+ghost use Rattle.query_core.specs.declared.expressions.PhysicalExpr.{PhysicalExpr as AnyPhysicalExpr};
+ghost use Rattle.plan_space.specs.Nodes.{enforcer_number as the_enforcer_number, number_of};
+ghost use Rattle.plan_space.specs.declared.nodes.NodeKind.{NodeKind as AnyNodeKind};
 ghost use Rattle.plan_space.specs.declared.nodes.NodeKind.TheVariants.{Native};
-ghost use Rattle.plan_tree.specs.Nodes.{EnforcerInRange, IsInRange, IsNode, NativeInRange};
+ghost use Rattle.plan_tree.specs.Nodes.{EnforcerInRange, IsNodeInRange, IsNode, NativeInRange};
 
 use plan_space::{Enforcer, NodeKind};
 use query_core::{Expr, PhysicalExpr, expressions_are_one};
@@ -30,7 +30,7 @@ const NATIVE: u64 = 1 << 56;
 impl Node {
     /// The node that does this.
     pub fn make(kind: NodeKind) -> Node
-        requires { IsInRange kind }
+        requires { IsNodeInRange kind }
         ensures { IsNode result kind }
     {
         Node(match kind {
@@ -41,7 +41,7 @@ impl Node {
 
     /// What the node does; none for a number that no node has.
     pub fn kind(self) -> Option<NodeKind>
-        ensures exact { (k : Kind) → IsNode self k ↔ (result ≡ Some k) }
+        ensures exact { (k : AnyNodeKind) → IsNode self k ↔ (result ≡ Some k) }
     {
         nodes_are_one();
         match self.0 {
@@ -66,14 +66,14 @@ impl Node {
 
 /// No two nodes in range have one number.
 pub fn nodes_are_one()
-    ensures { (k l : Kind) → IsInRange k → IsInRange l → number_of k ≡ number_of l → k ≡ l }
+    ensures { (k l : AnyNodeKind) → IsNodeInRange k → IsNodeInRange l → number_of k ≡ number_of l → k ≡ l }
 {
     expressions_are_one();
 }
 
 fn enforcer_number(enforcer: Enforcer) -> u64
     requires { EnforcerInRange enforcer }
-    ensures { result ≡ number_of_enforcer enforcer }
+    ensures { result ≡ the_enforcer_number enforcer }
 {
     match enforcer {
         Enforcer::Gather => GATHER,
@@ -88,7 +88,7 @@ fn enforcer_number(enforcer: Enforcer) -> u64
 fn native_of(number: u64) -> Option<(PhysicalExpr, u32)>
     ensures number { IfSome result (λ n. number ≡ number_of (Native n.0 n.1)) }
     ensures in_range { IfSome result (λ n. NativeInRange n.0 n.1) }
-    ensures none { IfNone result ((e : Physical) (mode : ℕ) → NativeInRange e mode →
+    ensures none { IfNone result ((e : AnyPhysicalExpr) (mode : ℕ) → NativeInRange e mode →
         number ≢ number_of (Native e mode)) }
 {
     expressions_are_one();

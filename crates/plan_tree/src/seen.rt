@@ -5,10 +5,13 @@ ghost use Rattle.std.specs.Prelude.{◌≡◌, ◌↔◌, IsTrue};
 ghost use Rattle.request_props.specs.Numbered.{IsProps, IsNumbered, order_of};
 ghost use Rattle.request_props.specs.Satisfied.{Satisfies};
 ghost use Rattle.plan_space.specs.Nodes.{Tree};
-ghost use Rattle.plan_space.specs.declared.nodes.NodeKind.{NodeKind as Kind};
-ghost use Rattle.plan_space.specs.Gives.{kid_of, kid_under, first_group as group_of_first, first_given as given_by_first};
-ghost use Rattle.plan_space.specs.Gives.{node_group as group_of_node, node_gives as given_by_node, native_gives as given_by_native, enforcer_gives as given_by_enforcer};
-ghost use Rattle.plan_space.specs.Gives.{line_gives as given_by_line, left_gives as given_by_left, left_dist as dist_by_left, left_order as order_by_left};
+ghost use Rattle.plan_space.specs.declared.nodes.NodeKind.{NodeKind as AnyNodeKind};
+ghost use Rattle.plan_space.specs.Gives.{kid_of, kid_under, first_group as the_first_group};
+ghost use Rattle.plan_space.specs.Gives.{first_given as the_first_given};
+ghost use Rattle.plan_space.specs.Gives.{node_group as the_node_group, node_gives as the_node_gives};
+ghost use Rattle.plan_space.specs.Gives.{native_gives as the_native_gives, enforcer_gives as the_enforcer_gives};
+ghost use Rattle.plan_space.specs.Gives.{line_gives as the_line_gives, left_gives as the_left_gives};
+ghost use Rattle.plan_space.specs.Gives.{left_dist as the_left_dist, left_order as the_left_order};
 ghost use Rattle.plan_tree.specs.Nodes.{IsNode};
 ghost use Rattle.plan_tree.specs.Spells.{Spells};
 ghost use Rattle.plan_tree.specs.Seen.{kids_seen, kids_of};
@@ -23,7 +26,7 @@ use request_props::{Given, GivenDist, GivenOrder, Props, Request};
 
 /// What a node sees of all plans below it.
 #[derive(Clone, Copy)]
-pub enum Below {
+pub enum Kids {
     Nothing,
     One(Kid),
     /// The left plan and the right one.
@@ -36,13 +39,13 @@ pub fn plan_seen(query: &Query, props: &Props, plan: &Plan) -> Kid
     ensures { (t : Tree) → Spells plan.now t → result ≡ kid_of query.now t }
 {
     match plan {
-        Plan::Leaf(node) => node_seen(query, props, *node, Below::Nothing),
+        Plan::Leaf(node) => node_seen(query, props, *node, Kids::Nothing),
         Plan::Over(node, kid) => {
-            let below = Below::One(plan_seen(query, props, kid));
+            let below = Kids::One(plan_seen(query, props, kid));
             node_seen(query, props, *node, below)
         }
         Plan::Two(node, left, right) => {
-            let below = Below::Two(
+            let below = Kids::Two(
                 plan_seen(query, props, left),
                 plan_seen(query, props, right),
             );
@@ -52,15 +55,15 @@ pub fn plan_seen(query: &Query, props: &Props, plan: &Plan) -> Kid
 }
 
 /// What the root of a plan sees of the plans below it.
-pub fn seen_below(query: &Query, props: &Props, plan: &Plan) -> Below
+pub fn seen_below(query: &Query, props: &Props, plan: &Plan) -> Kids
     requires { IsProps query.now props.now }
     ensures { (t : Tree) → Spells plan.now t → kids_seen result ≡ kids_of query.now t }
 {
     match plan {
-        Plan::Leaf(_) => Below::Nothing,
-        Plan::Over(_, kid) => Below::One(plan_seen(query, props, kid)),
+        Plan::Leaf(_) => Kids::Nothing,
+        Plan::Over(_, kid) => Kids::One(plan_seen(query, props, kid)),
         Plan::Two(_, left, right) => {
-            Below::Two(
+            Kids::Two(
                 plan_seen(query, props, left),
                 plan_seen(query, props, right),
             )
@@ -69,7 +72,7 @@ pub fn seen_below(query: &Query, props: &Props, plan: &Plan) -> Below
 }
 
 /// What is seen of a node over plans that are seen so.
-pub fn seen_above(query: &Query, props: &Props, kind: NodeKind, below: Below) -> Kid
+pub fn seen_above(query: &Query, props: &Props, kind: NodeKind, below: Kids) -> Kid
     requires { IsProps query.now props.now }
     ensures { result ≡ kid_under query.now kind (kids_seen below) }
 {
@@ -94,9 +97,9 @@ pub fn given_satisfies(query: &Query, props: &Props, given: Given, wanted: Reque
 }
 
 // The same of a node by its number; a number that no node has is seen as any plan.
-fn node_seen(query: &Query, props: &Props, node: Node, below: Below) -> Kid
+fn node_seen(query: &Query, props: &Props, node: Node, below: Kids) -> Kid
     requires { IsProps query.now props.now }
-    ensures { (kind : Kind) → IsNode node kind →
+    ensures { (kind : AnyNodeKind) → IsNode node kind →
         result ≡ kid_under query.now kind (kids_seen below) }
 {
     match node.kind() {
@@ -108,8 +111,8 @@ fn node_seen(query: &Query, props: &Props, node: Node, below: Below) -> Kid
     }
 }
 
-fn node_group(kind: NodeKind, below: Below) -> KeyParts
-    ensures { result ≡ group_of_node kind (kids_seen below) }
+fn node_group(kind: NodeKind, below: Kids) -> KeyParts
+    ensures { result ≡ the_node_group kind (kids_seen below) }
 {
     match kind {
         NodeKind::Native(expr, _) => expr.group,
@@ -118,30 +121,30 @@ fn node_group(kind: NodeKind, below: Below) -> KeyParts
 }
 
 /// The group of the first plan below.
-pub fn first_group(below: Below) -> KeyParts
-    ensures { result ≡ group_of_first (kids_seen below) }
+pub fn first_group(below: Kids) -> KeyParts
+    ensures { result ≡ the_first_group (kids_seen below) }
 {
     match below {
-        Below::Nothing => KeyParts::Get(0),
-        Below::One(kid) => kid.group,
-        Below::Two(left, _) => left.group,
+        Kids::Nothing => KeyParts::Get(0),
+        Kids::One(kid) => kid.group,
+        Kids::Two(left, _) => left.group,
     }
 }
 
 // What the first plan below gives.
-fn first_given(below: Below) -> Given
-    ensures { result ≡ given_by_first (kids_seen below) }
+fn first_given(below: Kids) -> Given
+    ensures { result ≡ the_first_given (kids_seen below) }
 {
     match below {
-        Below::Nothing => unordered(GivenDist::One),
-        Below::One(kid) => kid.given,
-        Below::Two(left, _) => left.given,
+        Kids::Nothing => unordered(GivenDist::One),
+        Kids::One(kid) => kid.given,
+        Kids::Two(left, _) => left.given,
     }
 }
 
-fn node_gives(query: &Query, props: &Props, kind: NodeKind, below: Below) -> Given
+fn node_gives(query: &Query, props: &Props, kind: NodeKind, below: Kids) -> Given
     requires { IsProps query.now props.now }
-    ensures { result ≡ given_by_node query.now kind (kids_seen below) }
+    ensures { result ≡ the_node_gives query.now kind (kids_seen below) }
 {
     match kind {
         NodeKind::Native(expr, mode) => native_gives(query, props, expr, mode, below),
@@ -150,7 +153,7 @@ fn node_gives(query: &Query, props: &Props, kind: NodeKind, below: Below) -> Giv
 }
 
 fn enforcer_gives(enforcer: Enforcer, given: Given) -> Given
-    ensures { result ≡ given_by_enforcer enforcer given }
+    ensures { result ≡ the_enforcer_gives enforcer given }
 {
     match enforcer {
         Enforcer::Gather => unordered(GivenDist::One),
@@ -176,9 +179,9 @@ fn ordered(dist: GivenDist, order: u32) -> Given
     }
 }
 
-fn native_gives(query: &Query, props: &Props, expr: PhysicalExpr, mode: u32, below: Below) -> Given
+fn native_gives(query: &Query, props: &Props, expr: PhysicalExpr, mode: u32, below: Kids) -> Given
     requires { IsProps query.now props.now }
-    ensures { result ≡ given_by_native query.now expr mode (kids_seen below) }
+    ensures { result ≡ the_native_gives query.now expr mode (kids_seen below) }
 {
     match line_of(query, props, expr, mode) {
         Some(line) => line_gives(line, below),
@@ -186,8 +189,8 @@ fn native_gives(query: &Query, props: &Props, expr: PhysicalExpr, mode: u32, bel
     }
 }
 
-fn line_gives(line: Line, below: Below) -> Given
-    ensures { result ≡ given_by_line line (kids_seen below) }
+fn line_gives(line: Line, below: Kids) -> Given
+    ensures { result ≡ the_line_gives line (kids_seen below) }
 {
     match line {
         Line::Leaf(dist, order) => Given { dist, order },
@@ -197,7 +200,7 @@ fn line_gives(line: Line, below: Below) -> Given
 }
 
 fn left_gives(dist: LeftDist, order: LeftOrder, given: Given) -> Given
-    ensures { result ≡ given_by_left dist order given }
+    ensures { result ≡ the_left_gives dist order given }
 {
     Given {
         dist: left_dist(dist, given.dist),
@@ -206,7 +209,7 @@ fn left_gives(dist: LeftDist, order: LeftOrder, given: Given) -> Given
 }
 
 fn left_dist(dist: LeftDist, given: GivenDist) -> GivenDist
-    ensures { result ≡ dist_by_left dist given }
+    ensures { result ≡ the_left_dist dist given }
 {
     match dist {
         LeftDist::Fixed(gives, _) => gives,
@@ -217,7 +220,7 @@ fn left_dist(dist: LeftDist, given: GivenDist) -> GivenDist
 }
 
 fn left_order(order: LeftOrder, given: GivenOrder) -> GivenOrder
-    ensures { result ≡ order_by_left order given }
+    ensures { result ≡ the_left_order order given }
 {
     match order {
         LeftOrder::Fixed(gives, _) => gives,

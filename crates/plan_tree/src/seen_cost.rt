@@ -6,21 +6,22 @@ ghost use Rattle.query_core.specs.Keys.{IsGroup};
 ghost use Rattle.cardinality.specs.Rows.{rows_of};
 ghost use Rattle.cost_units.specs.Cost.{IsBounded, local_cost, most_cost, most_rows};
 ghost use Rattle.request_props.specs.Numbered.{IsProps};
-ghost use Rattle.plan_space.specs.Gives.{first_group as group_of_first, node_group as group_of_node};
-ghost use Rattle.request_props.specs.Dists.{class_of as class_by_given};
-ghost use Rattle.plan_space.specs.Cost.{native_shape as shape_of_native, enforcer_shape as shape_of_enforcer, shape_of};
-ghost use Rattle.plan_space.specs.Cost.{share_of, first_share as share_of_first, second_share as share_of_second};
+ghost use Rattle.plan_space.specs.Gives.{first_group as the_first_group, node_group as the_node_group};
+ghost use Rattle.request_props.specs.Dists.{class_of as the_class_of};
+ghost use Rattle.plan_space.specs.Cost.{native_shape as the_native_shape, enforcer_shape as the_enforcer_shape};
+ghost use Rattle.plan_space.specs.Cost.{shape_of};
+ghost use Rattle.plan_space.specs.Cost.{share_of, first_share as the_first_share, second_share as the_second_share};
 ghost use Rattle.plan_tree.specs.Seen.{kids_seen, HasGroup, HaveGroups};
 
 use crate::cost::operator_shape;
-use crate::seen::{Below, first_group, seen_above};
+use crate::seen::{Kids, first_group, seen_above};
 use cost_units::{CostShape, local, share};
 use plan_space::{Enforcer, Kid, NodeKind};
 use query_core::{Key, KeyParts, PhysicalExpr, Query, groups_are_known};
 use request_props::{Props, class_of};
 
 /// The cost of a node over plans that are seen so.
-pub fn cost_above(query: &Query, props: &Props, kind: NodeKind, below: Below) -> u64
+pub fn cost_above(query: &Query, props: &Props, kind: NodeKind, below: Kids) -> u64
     requires props { IsProps query.now props.now }
     requires own_group { HasGroup query.now kind }
     requires groups { HaveGroups query.now below }
@@ -32,7 +33,7 @@ pub fn cost_above(query: &Query, props: &Props, kind: NodeKind, below: Below) ->
 }
 
 /// The same, over any plans; of groups that the query hasn't no more is said than the least and the most.
-pub fn cost_above_any(query: &Query, props: &Props, kind: NodeKind, below: Below) -> u64
+pub fn cost_above_any(query: &Query, props: &Props, kind: NodeKind, below: Kids) -> u64
     requires { IsProps query.now props.now }
     ensures value { HasGroup query.now kind → HaveGroups query.now below →
         result ≡ local_cost (shape_of query.now kind (kids_seen below)) }
@@ -43,10 +44,10 @@ pub fn cost_above_any(query: &Query, props: &Props, kind: NodeKind, below: Below
 }
 
 /// The rows of a node's group over plans that are seen so, where the groups are the query's.
-pub fn rows_above(query: &Query, props: &Props, kind: NodeKind, below: Below) -> u64
+pub fn rows_above(query: &Query, props: &Props, kind: NodeKind, below: Kids) -> u64
     requires { IsProps query.now props.now }
     ensures { HasGroup query.now kind → HaveGroups query.now below →
-        result ≡ rows_of query.now (group_of_node kind (kids_seen below)) }
+        result ≡ rows_of query.now (the_node_group kind (kids_seen below)) }
 {
     match kind {
         NodeKind::Native(expr, _) => group_rows(query, props, expr.group),
@@ -55,7 +56,7 @@ pub fn rows_above(query: &Query, props: &Props, kind: NodeKind, below: Below) ->
 }
 
 // What the node does.
-fn node_shape(query: &Query, props: &Props, kind: NodeKind, below: Below) -> CostShape
+fn node_shape(query: &Query, props: &Props, kind: NodeKind, below: Kids) -> CostShape
     requires { IsProps query.now props.now }
     ensures value { HasGroup query.now kind → HaveGroups query.now below →
         result ≡ shape_of query.now kind (kids_seen below) }
@@ -67,10 +68,10 @@ fn node_shape(query: &Query, props: &Props, kind: NodeKind, below: Below) -> Cos
     }
 }
 
-fn enforcer_shape(query: &Query, props: &Props, enforcer: Enforcer, below: Below) -> CostShape
+fn enforcer_shape(query: &Query, props: &Props, enforcer: Enforcer, below: Kids) -> CostShape
     requires { IsProps query.now props.now }
     ensures value { HaveGroups query.now below →
-        result ≡ shape_of_enforcer query.now enforcer (kids_seen below) }
+        result ≡ the_enforcer_shape query.now enforcer (kids_seen below) }
     ensures bounded { IsBounded result }
 {
     match enforcer {
@@ -87,11 +88,11 @@ fn native_shape(
     props: &Props,
     expr: PhysicalExpr,
     mode: u32,
-    below: Below,
+    below: Kids,
 ) -> CostShape
     requires { IsProps query.now props.now }
     ensures value { IsGroup query.now expr.group → HaveGroups query.now below →
-        result ≡ shape_of_native query.now expr mode (kids_seen below) }
+        result ≡ the_native_shape query.now expr mode (kids_seen below) }
     ensures bounded { IsBounded result }
 {
     let above = seen_above(query, props, NodeKind::Native(expr, mode), below);
@@ -104,40 +105,40 @@ fn native_shape(
 }
 
 // The rows of the first plan's group.
-fn first_rows(query: &Query, props: &Props, below: Below) -> u64
+fn first_rows(query: &Query, props: &Props, below: Kids) -> u64
     requires { IsProps query.now props.now }
     ensures value { HaveGroups query.now below →
-        result ≡ rows_of query.now (group_of_first (kids_seen below)) }
+        result ≡ rows_of query.now (the_first_group (kids_seen below)) }
     ensures most { result ≤ most_rows }
 {
     group_rows(query, props, first_group(below))
 }
 
 // How many rows of the first plan the busiest segment has.
-fn first_share(query: &Query, props: &Props, below: Below) -> u64
+fn first_share(query: &Query, props: &Props, below: Kids) -> u64
     requires { IsProps query.now props.now }
     ensures value { HaveGroups query.now below →
-        result ≡ share_of_first query.now (kids_seen below) }
+        result ≡ the_first_share query.now (kids_seen below) }
     ensures most { result ≤ most_rows }
 {
     match below {
-        Below::Nothing => 0,
-        Below::One(kid) => seen_share(query, props, kid),
-        Below::Two(left, _) => seen_share(query, props, left),
+        Kids::Nothing => 0,
+        Kids::One(kid) => seen_share(query, props, kid),
+        Kids::Two(left, _) => seen_share(query, props, left),
     }
 }
 
 // How many rows of the second plan the busiest segment has.
-fn second_share(query: &Query, props: &Props, below: Below) -> u64
+fn second_share(query: &Query, props: &Props, below: Kids) -> u64
     requires { IsProps query.now props.now }
     ensures value { HaveGroups query.now below →
-        result ≡ share_of_second query.now (kids_seen below) }
+        result ≡ the_second_share query.now (kids_seen below) }
     ensures most { result ≤ most_rows }
 {
     match below {
-        Below::Nothing => 0,
-        Below::One(_) => 0,
-        Below::Two(_, right) => seen_share(query, props, right),
+        Kids::Nothing => 0,
+        Kids::One(_) => 0,
+        Kids::Two(_, right) => seen_share(query, props, right),
     }
 }
 
@@ -145,7 +146,7 @@ fn second_share(query: &Query, props: &Props, below: Below) -> u64
 fn seen_share(query: &Query, props: &Props, kid: Kid) -> u64
     requires { IsProps query.now props.now }
     ensures value { IsGroup query.now kid.group →
-        result ≡ share_of query.now kid.group (class_by_given kid.given.dist) }
+        result ≡ share_of query.now kid.group (the_class_of kid.given.dist) }
     ensures most { result ≤ most_rows }
 {
     share(

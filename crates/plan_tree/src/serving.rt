@@ -8,8 +8,8 @@ ghost use Rattle.request_props.specs.Satisfied.{BeginsWith, Satisfies, IsOrderKn
 ghost use Rattle.plan_space.specs.Gives.{gives_so};
 ghost use Rattle.plan_space.specs.Choices.{groups_of};
 ghost use Rattle.plan_space.specs.Alternatives.{DistServes, OrderServes, LeftServes, JoinServes, LineServes};
-ghost use Rattle.plan_space.specs.Alternatives.{WantsSpread, asked_of, dist_asked as dist_by_line};
-ghost use Rattle.plan_space.specs.Alternatives.{order_asked as order_by_line, left_asked as asked_by_line};
+ghost use Rattle.plan_space.specs.Alternatives.{WantsSpread, asked_of, dist_asked as the_dist_asked};
+ghost use Rattle.plan_space.specs.Alternatives.{order_asked as the_order_asked, left_asked as the_left_asked};
 ghost use Rattle.plan_tree.specs.Alternatives.{MayGive};
 
 use plan_space::{LeftDist, LeftOrder, Line};
@@ -89,7 +89,7 @@ pub fn right_child(children: Children) -> Option<KeyParts>
 }
 
 fn left_asked(dist: LeftDist, order: LeftOrder, wanted: Request) -> Request
-    ensures { result ≡ asked_by_line dist order wanted }
+    ensures { result ≡ the_left_asked dist order wanted }
 {
     Request {
         dist: dist_asked(dist, wanted.dist),
@@ -98,7 +98,7 @@ fn left_asked(dist: LeftDist, order: LeftOrder, wanted: Request) -> Request
 }
 
 fn dist_asked(dist: LeftDist, wanted: Dist) -> Dist
-    ensures { result ≡ dist_by_line dist wanted }
+    ensures { result ≡ the_dist_asked dist wanted }
 {
     match dist {
         LeftDist::Fixed(_, asked) => asked,
@@ -109,7 +109,7 @@ fn dist_asked(dist: LeftDist, wanted: Dist) -> Dist
 }
 
 fn order_asked(order: LeftOrder, wanted: u32) -> u32
-    ensures { result ≡ order_by_line order wanted }
+    ensures { result ≡ the_order_asked order wanted }
 {
     match order {
         LeftOrder::Fixed(_, asked) => asked,

@@ -2,12 +2,12 @@
 #![tactic(auto)]
 
 ghost use Rattle.std.specs.Prelude.{ℕ, ◌≡◌, ◌<◌, ◌↔◌, length};
-ghost use Rattle.query_core.specs.Expressions.{table_in as table_by_group};
-ghost use Rattle.query_core.specs.declared.words.KeyParts.{KeyParts as Group};
+ghost use Rattle.query_core.specs.Expressions.{table_in as the_table_in};
+ghost use Rattle.query_core.specs.declared.words.KeyParts.{KeyParts as AnyKeyParts};
 ghost use Rattle.request_props.specs.NumberSets.{IsInSet};
 ghost use Rattle.request_props.specs.Numbered.{IsProps, lists_of};
 ghost use Rattle.plan_space.specs.Lines.{dists_of_table};
-ghost use Rattle.plan_space.specs.Ways.{way_of as way_by_table};
+ghost use Rattle.plan_space.specs.Ways.{way_of as the_way_of};
 ghost use Rattle.plan_space.specs.declared.ways.Way.TheVariants.{Joins};
 ghost use Rattle.plan_tree.specs.Walks.{AreLined, AreModesOf, IsNextLine, IsNextOf};
 
@@ -50,7 +50,7 @@ pub fn next_of(
 // The modes in which the expression works.
 fn modes_of(query: &Query, props: &Props, expr: PhysicalExpr) -> ModeSets
     requires { IsProps query.now props.now }
-    ensures { AreModesOf query.now expr.group (way_by_table expr.operator) result }
+    ensures { AreModesOf query.now expr.group (the_way_of expr.operator) result }
 {
     modes_by(query, props, expr.group, way_of(expr.operator))
 }
@@ -79,7 +79,7 @@ fn modes_joining(
     right: KeyParts,
 ) -> ModeSets
     requires { IsProps query.now props.now }
-    ensures { (group : Group) → AreModesOf query.now group (Joins by left right) result }
+    ensures { (group : AnyKeyParts) → AreModesOf query.now group (Joins by left right) result }
 {
     let first = NumberSet::below(1);
     let crossings = props.crossings(query, left, right);
@@ -93,7 +93,7 @@ fn modes_joining(
 // A number for each distribution in which the rows of the group's table are read.
 fn reads_of(query: &Query, group: KeyParts) -> NumberSet
     ensures { (number : ℕ) → IsInSet result number ↔
-        (number < length (dists_of_table query.now (table_by_group group))) }
+        (number < length (dists_of_table query.now (the_table_in group))) }
 {
     NumberSet::below(read_count(query, table_in(group)))
 }

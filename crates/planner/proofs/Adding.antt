@@ -19,8 +19,8 @@ use Rattle.plan_tree.specs.Spells.{Spells}
 use Rattle.plan_tree.specs.declared.node.Node.{Node}
 use Rattle.plan_tree.specs.declared.plan.Plan.{Plan}
 use Rattle.plan_tree.specs.declared.plan.Plan.TheVariants.{Two'}
-use Rattle.plan_tree.specs.declared.seen.Below.{Below}
-use Rattle.plan_tree.specs.declared.seen.Below.TheVariants.{Nothing, One, Two}
+use Rattle.plan_tree.specs.declared.seen.Kids.{Kids}
+use Rattle.plan_tree.specs.declared.seen.Kids.TheVariants.{Nothing, One, Two}
 use Rattle.planner.specs.Adding.{AddsPlan, IsNodeOver, IsRootOf}
 use Rattle.planner.specs.Nodes.{node_at, nodes_from, nodes_of}
 use Rattle.planner.specs.declared.node.PlanNode.{PlanNode}
@@ -38,7 +38,7 @@ module _ (q : Query) where
   AreGroups (kid ∷ others) = IsGroup q kid.group × AreGroups others
 
   -- so are those of the plans below a node
-  seen_groups : (below : Below) → AreGroups (kids_seen below) → HaveGroups q below
+  seen_groups : (below : Kids) → AreGroups (kids_seen below) → HaveGroups q below
   seen_groups Nothing are = tt
   seen_groups (One kid) are = are.0
   seen_groups (Two left right) are = (are.0, are.1.0)
@@ -58,7 +58,7 @@ module _ (q : Query) where
   -- ---- the root
 
   -- a node over what is seen below the root is the root's
-  pub root_is : (depth : ℕ) (plan : Plan) (kind : NodeKind) (below : Below) (node : PlanNode)
+  pub root_is : (depth : ℕ) (plan : Plan) (kind : NodeKind) (below : Kids) (node : PlanNode)
       → ((tree : Tree) → Spells plan tree → Some kind ≡ Some (root_node tree))
       → ((tree : Tree) → Spells plan tree → kids_seen below ≡ kids_of q tree)
       → IsNodeOver q depth kind below node → IsRootOf q depth plan (Some node)

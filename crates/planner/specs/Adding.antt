@@ -7,12 +7,12 @@ use Rattle.plan_space.specs.declared.nodes.NodeKind.{NodeKind}
 use Rattle.plan_tree.specs.Seen.{HasGroup, HaveGroups, kids_of, kids_seen, root_node}
 use Rattle.plan_tree.specs.Spells.{Spells}
 use Rattle.plan_tree.specs.declared.plan.Plan.{Plan}
-use Rattle.plan_tree.specs.declared.seen.Below.{Below}
+use Rattle.plan_tree.specs.declared.seen.Kids.{Kids}
 use Rattle.planner.specs.Nodes.{node_at, nodes_from}
 use Rattle.planner.specs.declared.node.PlanNode.{PlanNode}
 
 -- the node over plans that are seen so, where the groups are the query's
-abbrev pub IsNodeOver : Query → ℕ → NodeKind → Below → PlanNode → Type 0
+abbrev pub IsNodeOver : Query → ℕ → NodeKind → Kids → PlanNode → Type 0
 IsNodeOver q depth kind below node =
     HasGroup q kind → HaveGroups q below → node ≡ node_at q depth kind (kids_seen below)
 

@@ -4,11 +4,11 @@
 ghost use Rattle.std.specs.Prelude.{◌≡◌, IfOk, map};
 ghost use Rattle.request_props.specs.Found.{element_of, elements_of};
 ghost use Rattle.request_props.specs.Numbered.{IsProps, list_of, order_of};
-ghost use Rattle.request_props.specs.Satisfied.{index_columns as columns_of_index};
-ghost use Rattle.query_text.specs.Columns.{computed_text as computed};
-ghost use Rattle.planner.specs.Columns.{columns_of as columns_meant, native_columns as columns_by_operator};
-ghost use Rattle.planner.specs.Columns.{enforcer_columns as columns_by_enforcer, column_at, column_by};
-ghost use Rattle.planner.specs.Columns.{join_columns as columns_of_join, logical_columns as columns_of_logical};
+ghost use Rattle.request_props.specs.Satisfied.{index_columns as the_index_columns};
+ghost use Rattle.query_text.specs.Columns.{computed_text as the_computed_text};
+ghost use Rattle.planner.specs.Columns.{columns_of as the_columns_of, native_columns as the_native_columns};
+ghost use Rattle.planner.specs.Columns.{enforcer_columns as the_enforcer_columns, column_at, column_by};
+ghost use Rattle.planner.specs.Columns.{join_columns as the_join_columns, logical_columns as the_logical_columns};
 
 use crate::node::PlanColumn;
 use orca_base::{List, Text};
@@ -26,7 +26,7 @@ pub fn columns_of(
     kind: NodeKind,
 ) -> Result<List<PlanColumn>, AllocError>
     requires { IsProps query.now props.now }
-    ensures { IfOk result (λ columns. columns ≡ columns_meant query.now kind) }
+    ensures { IfOk result (λ columns. columns ≡ the_columns_of query.now kind) }
 {
     match kind {
         NodeKind::Native(expr, _) => operator_columns(alloc, query, expr),
@@ -39,7 +39,7 @@ fn operator_columns(
     query: &Query,
     expr: PhysicalExpr,
 ) -> Result<List<PlanColumn>, AllocError>
-    ensures { IfOk result (λ columns. columns ≡ columns_by_operator query.now expr) }
+    ensures { IfOk result (λ columns. columns ≡ the_native_columns query.now expr) }
 {
     let implemented = expr.operator.implements(expr.group);
     match expr.operator.access() {
@@ -60,7 +60,7 @@ fn logical_columns(
     operator: Logical,
 ) -> Result<List<PlanColumn>, AllocError>
     ensures { IfOk result (λ columns.
-        columns ≡ map (column_at query.now) (columns_of_logical query.now operator)) }
+        columns ≡ map (column_at query.now) (the_logical_columns query.now operator)) }
 {
     match operator {
         Logical::Get => Ok(List::new(alloc)),
@@ -79,7 +79,7 @@ fn enforcer_columns(
     enforcer: Enforcer,
 ) -> Result<List<PlanColumn>, AllocError>
     requires { IsProps query.now props.now }
-    ensures { IfOk result (λ columns. columns ≡ columns_by_enforcer query.now enforcer) }
+    ensures { IfOk result (λ columns. columns ≡ the_enforcer_columns query.now enforcer) }
 {
     match enforcer {
         Enforcer::Gather => Ok(List::new(alloc)),
@@ -92,7 +92,7 @@ fn enforcer_columns(
 
 // The columns of an index of a table; none where there is no such index.
 fn index_columns(query: &Query, table: u32, index: u32) -> &[u32]
-    ensures { result.now ≡ columns_of_index query.now table index }
+    ensures { result.now ≡ the_index_columns query.now table index }
 {
     let Some(table) = query.tables.as_slice().get(table as usize) else {
         return &[];
@@ -134,7 +134,7 @@ fn join_columns(
     right: KeyParts,
 ) -> Result<List<PlanColumn>, AllocError>
     ensures { IfOk result (λ columns.
-        columns ≡ map (column_at query.now) (columns_of_join query.now left right)) }
+        columns ≡ map (column_at query.now) (the_join_columns query.now left right)) }
 {
     let mut numbers = Vec::new(alloc);
     for pred in 0..query.preds.len() as u32 {
@@ -169,7 +169,7 @@ fn column(alloc: Global, query: &Query, key: OrderKey) -> Result<PlanColumn, All
 
 // The name of a column, or what an aggregate computes.
 fn name(alloc: Global, query: &Query, number: u32) -> Result<Text, AllocError>
-    ensures { IfOk result (λ name. name ≡ computed query.now number) }
+    ensures { IfOk result (λ name. name ≡ the_computed_text query.now number) }
 {
     Ok(Text::of(computed_text(alloc, query, number)?))
 }

@@ -8,7 +8,7 @@ ghost use Rattle.plan_space.specs.Nodes.{Tree};
 ghost use Rattle.plan_space.specs.Valid.{IsValid};
 ghost use Rattle.plan_tree.specs.Seen.{kids_seen, root_node};
 ghost use Rattle.plan_tree.specs.Spells.{Spells};
-ghost use Rattle.planner.specs.Nodes.{nodes_of as nodes_meant};
+ghost use Rattle.planner.specs.Nodes.{nodes_of as the_nodes_of};
 ghost use Rattle.planner.specs.Adding.{AddsPlan, IsNodeOver, IsRootOf};
 
 use crate::columns::columns_of;
@@ -16,7 +16,7 @@ use crate::node::PlanNode;
 use orca_base::{List, Text};
 use plan_lines::node_text;
 use plan_space::NodeKind;
-use plan_tree::{Below, Plan, cost_above_any, rows_above, seen_below};
+use plan_tree::{Kids, Plan, cost_above_any, rows_above, seen_below};
 use query_core::Query;
 use request_props::Props;
 use std::alloc::{AllocError, Global};
@@ -31,7 +31,7 @@ pub fn nodes_of(
 ) -> Result<List<PlanNode>, AllocError>
     requires { IsProps query.now props.now }
     ensures { IfOk result (λ nodes. (tree : Tree) → Spells plan.now tree →
-        IsValid (IsMember query.now) query.now tree → nodes ≡ nodes_meant query.now tree) }
+        IsValid (IsMember query.now) query.now tree → nodes ≡ the_nodes_of query.now tree) }
 {
     // For the proof: the groups of members are the query's.
     members_are_candidates();
@@ -103,7 +103,7 @@ fn node_over(
     props: &Props,
     depth: usize,
     kind: NodeKind,
-    below: Below,
+    below: Kids,
 ) -> Result<PlanNode, AllocError>
     requires { IsProps query.now props.now }
     ensures { IfOk result (IsNodeOver query.now depth kind below) }
@@ -120,12 +120,12 @@ fn node_over(
 }
 
 // How many plans are seen below a node.
-fn count_of(below: Below) -> usize
+fn count_of(below: Kids) -> usize
     ensures { result ≡ length (kids_seen below) }
 {
     match below {
-        Below::Nothing => 0,
-        Below::One(_) => 1,
-        Below::Two(_, _) => 2,
+        Kids::Nothing => 0,
+        Kids::One(_) => 1,
+        Kids::Two(_, _) => 2,
     }
 }

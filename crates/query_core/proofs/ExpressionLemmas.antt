@@ -1,7 +1,7 @@
 -- Laws of group expressions and their words.
 use Rattle.std.proofs.Common.{◌≡◌, ℕ, ◌*◌, ◌/◌, ◌%◌, ◌-◌, ◌≤◌, ◌<◌, ◌^◌, refl, ap, ◌∙◌, ◌↔◌, arith, inl, inr}
 use Rattle.std.proofs.lemmas.Bool.{cases_eq}
-use Rattle.query_core.specs.Keys.{key_number, IsInRange}
+use Rattle.query_core.specs.Keys.{key_number, IsGroupInRange}
 use Rattle.query_core.specs.Expressions.{expr_of, fields, key_field, fields_of}
 use Rattle.query_core.specs.Expressions.{left_number, right_number, packed, word_of, AreInRange, HasWord, IsPacked}
 use Rattle.query_core.specs.Expressions.{IsJoinNumber}
@@ -30,7 +30,7 @@ pub operator_below : (o : Operator) → (fields_of o).number < OPERATORS
 operator_below o = grind arith
 
 -- keys have numbers below the bound of keys
-pub key_small : (g : KeyParts) → IsInRange g → key_number g < KEYS
+pub key_small : (g : KeyParts) → IsGroupInRange g → key_number g < KEYS
 key_small g in_g = grind arith
 
 pub left_small : (c : Children) → AreInRange c → left_number c < 2 ^ 13

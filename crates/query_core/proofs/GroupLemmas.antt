@@ -8,14 +8,15 @@ use Rattle.std.proofs.Math.Nat.{pow-le-pow_right}
 use Rattle.std.proofs.lemmas.Bool.{cases_lt, eqb-true, ne_eqb, cond_both}
 use Rattle.query_core.specs.Sets.{is_several}
 use Rattle.query_core.specs.Connected.{IsConnected}
-use Rattle.query_core.specs.Keys.{key_number, IsInRange, IsGroup, Names, IsKey, has_own, group_of_table, top_of}
+use Rattle.query_core.specs.Keys.{key_number, IsGroupInRange, IsGroup, NamesGroup, IsKey, has_own, group_of_table}
+use Rattle.query_core.specs.Keys.{top_of}
 use Rattle.query_core.specs.declared.query.Query.{Query}
 use Rattle.query_core.specs.declared.words.Key.{Key}
 use Rattle.query_core.specs.declared.words.KeyParts.{KeyParts}
 use Rattle.query_core.specs.declared.words.KeyParts.TheVariants.{Get, Filter, Join, Partial, Agg}
 
 -- a group's key is that of no other group
-pub key_one : (p g : KeyParts) → IsInRange p → IsInRange g → key_number p ≡ key_number g → p ≡ g
+pub key_one : (p g : KeyParts) → IsGroupInRange p → IsGroupInRange g → key_number p ≡ key_number g → p ≡ g
 key_one (Get t) (Get u) in_p in_g same = ap Get same
 key_one (Filter t) (Filter u) in_p in_g same = ap Filter (omega (arith, same))
 key_one (Join a) (Join b) in_p in_g same = ap Join (omega (arith, same))
@@ -33,7 +34,7 @@ exponent_lt t n less = elim (cases_lt t n) [
 ]
 
 -- the numbers of a query's groups are in range
-pub group_in_range : (q : Query) (group : KeyParts) → IsGroup q group → IsInRange group
+pub group_in_range : (q : Query) (group : KeyParts) → IsGroup q group → IsGroupInRange group
 group_in_range q (Get t) known = omega (arith, known, q.tables_valid.few)
 group_in_range q (Filter t) known = omega (arith, known.0, q.tables_valid.few)
 group_in_range q (Join set) known =
@@ -43,12 +44,13 @@ group_in_range q Partial known = refl
 group_in_range q Agg known = refl
 
 -- what the key names is the group in range with its number
-pub named_one : (q : Query) (key : Key) (p g : KeyParts) → IsInRange p → key_number p ≡ key.0 → Names q key g → g ≡ p
+pub named_one : (q : Query) (key : Key) (p g : KeyParts) → IsGroupInRange p → key_number p ≡ key.0 → NamesGroup q key g
+    → g ≡ p
 named_one q key p g in_p number names = key_one g p (group_in_range q g names.known) in_p (sym names.number
     ∙ sym number)
 
 -- a key whose number is that of a group in range is one of the query's exactly where it has the group
-pub is_key-group : (q : Query) (key : Key) (p : KeyParts) → IsInRange p → key_number p ≡ key.0 → IsGroup q p
+pub is_key-group : (q : Query) (key : Key) (p : KeyParts) → IsGroupInRange p → key_number p ≡ key.0 → IsGroup q p
     ↔ IsKey q key
 is_key-group q key p in_p number = (
   λ known. (p, record { number = sym number; known = known }),
@@ -56,7 +58,8 @@ is_key-group q key p in_p number = (
 )
 
 -- a key of the query has the number of a group in range
-pub key_in_range : (q : Query) (key : Key) → ((p : KeyParts) → IsInRange p → key_number p ≡ key.0 → ⊥) → IsKey q key → ⊥
+pub key_in_range : (q : Query) (key : Key) → ((p : KeyParts) → IsGroupInRange p → key_number p ≡ key.0 → ⊥)
+    → IsKey q key → ⊥
 key_in_range q key none (g, names) = none g (group_in_range q g names.known) (sym names.number)
 
 -- a connected set of tables that isn't empty has its group
@@ -75,8 +78,8 @@ top_group q set some of_tables connected =
     (λ differs. (of_tables, several differs, connected))
 
 -- a key of the query names the group in range with its number
-pub known_named : (q : Query) (key : Key) (p : KeyParts) → IsInRange p → key_number p ≡ key.0 → IsKey q key
-    → Names q key p
+pub known_named : (q : Query) (key : Key) (p : KeyParts) → IsGroupInRange p → key_number p ≡ key.0 → IsKey q key
+    → NamesGroup q key p
 known_named q key p in_p number found = record {
   number = sym number;
   known = subst (IsGroup q) (named_one q key p found.0 in_p number found.1) found.1.known;

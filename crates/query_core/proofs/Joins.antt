@@ -1,7 +1,7 @@
 -- Laws of the joins of a set by their sides.
 use Rattle.std.proofs.Common.{◌≡◌, ℕ, ◌+◌, ◌-◌, ◌<◌, ap, sym, subst, ◌∙◌, arith}
 use Rattle.query_core.specs.Sets.{bit}
-use Rattle.query_core.specs.Keys.{key_number, IsInRange, top_of}
+use Rattle.query_core.specs.Keys.{key_number, IsGroupInRange, top_of}
 use Rattle.query_core.specs.Expressions.{left_number, FallsInto}
 use Rattle.query_core.specs.Finding.{left_of, IsAt, IsJoined, IsOver}
 use Rattle.query_core.specs.declared.query.Query.{Query}
@@ -11,7 +11,7 @@ use Rattle.query_core.specs.declared.expressions.ExprParts.{ExprParts}
 use Rattle.query_core.proofs.Splitting.{right_bit, right_one, set_one, left_within, right_within, top_in_range}
 use Rattle.query_core.proofs.Splitting.{key_top_small}
 
-module _ (q : Query) (set : ℕ) (small : IsInRange (groups.Join set)) where
+module _ (q : Query) (set : ℕ) (small : IsGroupInRange (groups.Join set)) where
   -- a set falls into one pair of sides whose left group has this key
   pub sides_one : (a b x y : ℕ) → FallsInto q set a b → FallsInto q set x y
       → key_number (top_of q a) ≡ key_number (top_of q x) → (a ≡ x) × (b ≡ y)
@@ -24,7 +24,7 @@ module _ (q : Query) (set : ℕ) (small : IsInRange (groups.Join set)) where
       )
 
   -- both groups of a join are in range
-  pub sides_in_range : (a b : ℕ) → FallsInto q set a b → IsInRange (top_of q a) × IsInRange (top_of q b)
+  pub sides_in_range : (a b : ℕ) → FallsInto q set a b → IsGroupInRange (top_of q a) × IsGroupInRange (top_of q b)
   sides_in_range a b falls = (
     top_in_range q a (omega (arith, left_within q set a b falls)),
     top_in_range q b (omega (arith, right_within q set a b falls)),

@@ -6,7 +6,7 @@ use Rattle.std.specs.Int.{trailing_zeros, w32}
 use Rattle.std.proofs.lemmas.Bool.{eqb-true, cond_both}
 use Rattle.std.proofs.lemmas.Nat.{le_or_l, le_or_r}
 use Rattle.query_core.specs.Sets.{bit}
-use Rattle.query_core.specs.Keys.{key_number, IsInRange, has_own, group_of_table, top_of, tables_of}
+use Rattle.query_core.specs.Keys.{key_number, IsGroupInRange, has_own, group_of_table, top_of, tables_of}
 use Rattle.query_core.specs.Expressions.{FallsInto}
 use Rattle.query_core.specs.declared.query.Query.{Query}
 use Rattle.query_core.specs.declared.words.KeyParts.{KeyParts}
@@ -25,18 +25,19 @@ tables_top q set =
     (λ differs. refl)
 
 -- the group that joins tables of the first ten is in range
-pub top_in_range : (q : Query) (set : ℕ) → IsInRange (Join set) → IsInRange (top_of q set)
+pub top_in_range : (q : Query) (set : ℕ) → IsGroupInRange (Join set) → IsGroupInRange (top_of q set)
 top_in_range q set small =
     let least = trailing_zeros w32 set in
     let there : (set == 2 ^ least) ≡ true → least < 10 =
     λ same. exponent_lt least 10 (subst (λ x. x < 2 ^ 10) (eqb-true set (2 ^ least) same) small) in
-    cond_both (set == 2 ^ least) (Some least) None (λ o. IsInRange (option_map_or (group_of_table q) o (Join set)))
-    (λ same. cond_both (has_own q least) (Filter least) (Get least) IsInRange (λ own. there same) (λ none. there same))
+    cond_both (set == 2 ^ least) (Some least) None (λ o. IsGroupInRange (option_map_or (group_of_table q) o (Join set)))
+    (λ same. cond_both (has_own q least) (Filter least) (Get least) IsGroupInRange (λ own. there same)
+    (λ none. there same))
     (λ differs. small)
 
 -- of a number there is one such group, and one such set
-pub number_top : (q : Query) (set number : ℕ) (group : KeyParts) → IsInRange group → key_number group ≡ number
-    → IsInRange (Join set)
+pub number_top : (q : Query) (set number : ℕ) (group : KeyParts) → IsGroupInRange group → key_number group ≡ number
+    → IsGroupInRange (Join set)
     → key_number (top_of q set) ≡ number → group ≡ top_of q set
 number_top q set number group in_range is small top_is =
     key_one group (top_of q set) in_range (top_in_range q set small) (is ∙ sym top_is)
@@ -66,7 +67,7 @@ rest_disjoint set a rest left = same_tables (bit_and a rest) 0
     (λ t. omega (arith, left t, bit-and a rest t, bit-none t, bit-below a t, bit-below set t))
 
 -- groups in range join tables of the first ten
-pub tables_small : (group : KeyParts) → IsInRange group → IsInRange (Join (tables_of group))
+pub tables_small : (group : KeyParts) → IsGroupInRange group → IsGroupInRange (Join (tables_of group))
 tables_small (Get t) there = power_below t 10 there
 tables_small (Filter t) there = power_below t 10 there
 tables_small (Join set) small = small
@@ -74,7 +75,7 @@ tables_small Partial there = omega arith
 tables_small Agg there = omega arith
 
 -- the group of a set has a key below those of GROUP BY
-pub key_top_small : (q : Query) (set : ℕ) → IsInRange (Join set) → key_number (top_of q set) < 2048
+pub key_top_small : (q : Query) (set : ℕ) → IsGroupInRange (Join set) → key_number (top_of q set) < 2048
 key_top_small q set small =
     let least = trailing_zeros w32 set in
     let there : (set == 2 ^ least) ≡ true → least < 10 =
@@ -86,7 +87,7 @@ key_top_small q set small =
     (λ differs. omega (arith, small))
 
 -- of a key there is one set whose group it names
-pub set_one : (q : Query) (a b : ℕ) → IsInRange (Join a) → IsInRange (Join b)
+pub set_one : (q : Query) (a b : ℕ) → IsGroupInRange (Join a) → IsGroupInRange (Join b)
     → key_number (top_of q a) ≡ key_number (top_of q b) → a ≡ b
 set_one q a b a_small b_small same =
     let group = key_one (top_of q a) (top_of q b) (top_in_range q a a_small) (top_in_range q b b_small) same in

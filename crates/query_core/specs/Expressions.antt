@@ -2,7 +2,7 @@
 use Rattle.std.specs.Prelude.{ℕ, Bool, true, false, Option, None, ◌≡◌, ◌⊎◌, ◌<◌, ◌+◌, ◌*◌, ◌/◌, ◌%◌, ◌^◌, length, ⊤}
 use Rattle.std.specs.Prelude.{◌≤◌, slice_get, Some, IsTrue, bit_or, bit_and}
 use Rattle.query_core.specs.Connected.{IsConnected}
-use Rattle.query_core.specs.Keys.{key_number, IsInRange, IsGroup, top_of, input_of}
+use Rattle.query_core.specs.Keys.{key_number, IsGroupInRange, IsGroup, top_of, input_of}
 use Rattle.query_core.specs.declared.table.QueryTable.{QueryTable}
 use Rattle.query_core.specs.declared.query.Query.{Query}
 use Rattle.query_core.specs.declared.words.KeyParts.{KeyParts}
@@ -112,8 +112,8 @@ middle_field word = word / 2 ^ 13 % MIDDLES
 -- the children are groups that some query can have
 abbrev pub AreInRange : Children → Type 0
 AreInRange Zero = IsTrue true
-AreInRange (One child) = IsInRange child
-AreInRange (Two left right) = IsInRange left × IsInRange right
+AreInRange (One child) = IsGroupInRange child
+AreInRange (Two left right) = IsGroupInRange left × IsGroupInRange right
 
 -- the group is a child
 abbrev pub IsChild : Children → KeyParts → Type 0
@@ -123,7 +123,7 @@ IsChild (Two left right) group = (group ≡ left) ⊎ (group ≡ right)
 
 -- each part fits its field
 pub record IsPacked (e : ExprParts) : Type 0 where
-  pub group : IsInRange e.group
+  pub group : IsGroupInRange e.group
   pub index : (fields_of e.operator).index < 32
   pub children : AreInRange (children_of e.operator)
 

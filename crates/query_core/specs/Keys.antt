@@ -24,12 +24,12 @@ key_number Partial = 2048
 key_number Agg = 2049
 
 -- tables and sets of tables are those that a query of 10 tables can have
-abbrev pub IsInRange : KeyParts → Type 0
-IsInRange (Get t) = t < 10
-IsInRange (Filter t) = t < 10
-IsInRange (Join set) = set < 1024
-IsInRange Partial = IsTrue true
-IsInRange Agg = IsTrue true
+abbrev pub IsGroupInRange : KeyParts → Type 0
+IsGroupInRange (Get t) = t < 10
+IsGroupInRange (Filter t) = t < 10
+IsGroupInRange (Join set) = set < 1024
+IsGroupInRange Partial = IsTrue true
+IsGroupInRange Agg = IsTrue true
 
 -- a right side that is a column is one of the table
 abbrev pub lies_in : List Item → ℕ → Operand → Bool
@@ -55,13 +55,13 @@ IsGroup q Partial = IsTrue q.grouped
 IsGroup q Agg = IsTrue q.grouped
 
 -- the key is that of the group, which the query has
-pub record Names (q : Query) (key : Key) (group : KeyParts) : Type 0 where
+pub record NamesGroup (q : Query) (key : Key) (group : KeyParts) : Type 0 where
   pub number : key.0 ≡ key_number group
   pub known : IsGroup q group
 
 -- the key is that of a group of the query
 abbrev pub IsKey : Query → Key → Type 0
-IsKey q key = (group : KeyParts) × Names q key group
+IsKey q key = (group : KeyParts) × NamesGroup q key group
 
 -- the group of one table: where it has own predicates these are applied
 abbrev pub group_of_table : Query → ℕ → KeyParts

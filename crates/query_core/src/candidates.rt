@@ -6,7 +6,8 @@ ghost use Rattle.query_core.specs.declared.expressions.ExprParts.{ExprParts};
 ghost use Rattle.query_core.specs.declared.query.Query.{Query};
 ghost use Rattle.query_core.specs.declared.words.KeyParts.{KeyParts};
 ghost use Rattle.query_core.specs.Connected.{IsConnected};
-ghost use Rattle.query_core.specs.Keys.{key_number, IsInRange, IsGroup, IsKey, Names, top_of, input_of, root_of};
+ghost use Rattle.query_core.specs.Keys.{key_number, IsGroupInRange, IsGroup, IsKey, NamesGroup, top_of, input_of};
+ghost use Rattle.query_core.specs.Keys.{root_of};
 ghost use Rattle.query_core.specs.Candidates.{LogicalComeFirst, MiddlesRise};
 ghost use Rattle.query_core.specs.Expressions.{word_of, children_of, middle_field, MIDDLES, origin_of};
 ghost use Rattle.query_core.specs.Expressions.{origin_operator};
@@ -21,7 +22,7 @@ impl Query {
     /// The expression with which the group begins.
     pub fn origin(&self, key: Key) -> Expr
         requires { IsKey self.now key }
-        ensures { (g : KeyParts) → Names self.now key g →
+        ensures { (g : KeyParts) → NamesGroup self.now key g →
             result.0 ≡ word_of (origin_of self.now g) }
     {
         Expr::make(self.origin_of_group(self.group(key)))
@@ -67,8 +68,8 @@ pub fn candidates_are_in_order()
 
 /// What all groups of a query have in common, and which groups each query has.
 pub fn groups_are_known()
-    ensures in_range { (q : Query) (g : KeyParts) → IsGroup q g → IsInRange g }
-    ensures small { (g : KeyParts) → IsInRange g → key_number g < KEYS }
+    ensures in_range { (q : Query) (g : KeyParts) → IsGroup q g → IsGroupInRange g }
+    ensures small { (g : KeyParts) → IsGroupInRange g → key_number g < KEYS }
     ensures joined { (q : Query) (set : ℕ) → 0 < set → set < 2 ^ length q.tables →
         IsConnected q.links set → IsGroup q (top_of q set) }
     ensures input { (q : Query) → IsGroup q (input_of q) }

@@ -3,7 +3,7 @@ ghost use Rattle.std.specs.List.{list_all, list_any};
 ghost use Rattle.std.specs.Str.{bytes_eq};
 ghost use Rattle.query_core.specs.Differ.{all_differ, texts_differ};
 ghost use Rattle.query_core.specs.Histogram.{may_be_histogram};
-ghost use Rattle.query_core.specs.Catalog.{is_catalog_name as is_short_name, IsColumn, IsColumnList, IsPlacing};
+ghost use Rattle.query_core.specs.Catalog.{is_catalog_name as the_is_catalog_name, IsColumn, IsColumnList, IsPlacing};
 ghost use Rattle.query_core.specs.Catalog.{IsTable, IsCatalog};
 
 use crate::histogram::{Histogram, is_within};
@@ -64,7 +64,7 @@ impl Catalog {
 }
 
 fn is_catalog_name(text: &Text) -> bool
-    ensures { result ≡ is_short_name text.now }
+    ensures { result ≡ the_is_catalog_name text.now }
 {
     is_name(text.as_str()) && text.as_str().len() <= 64
 }

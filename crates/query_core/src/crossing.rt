@@ -2,8 +2,8 @@
 #![tactic(auto)]
 
 ghost use Rattle.std.specs.Prelude.{◌≡◌};
-ghost use Rattle.query_core.specs.Keys.{IsKey, Names};
-ghost use Rattle.query_core.specs.Crossing.{equal_item as equal_item_of, sides_of, crossing_of};
+ghost use Rattle.query_core.specs.Keys.{IsKey, NamesGroup};
+ghost use Rattle.query_core.specs.Crossing.{equal_item as the_equal_item, sides_of, crossing_of};
 
 use crate::predicate::{CmpOp, Operand, Pred};
 use crate::query::Query;
@@ -14,7 +14,7 @@ impl Query {
     pub fn crossing(&self, left: Key, right: Key, pred: u32) -> Option<(u32, u32)>
         requires left { IsKey self.now left }
         requires right { IsKey self.now right }
-        ensures { (l r : KeyParts) → Names self.now left l → Names self.now right r →
+        ensures { (l r : KeyParts) → NamesGroup self.now left l → NamesGroup self.now right r →
             result ≡ crossing_of self.now l r pred }
     {
         self.crossing_groups(self.group(left), self.group(right), pred)
@@ -44,7 +44,7 @@ impl Query {
 
 // The item that an equality compares with.
 fn equal_item(pred: &Pred) -> Option<u32>
-    ensures { result ≡ equal_item_of pred.now.op pred.now.right }
+    ensures { result ≡ the_equal_item pred.now.op pred.now.right }
 {
     match (pred.op, &pred.right) {
         (CmpOp::Eq, Operand::Item(item)) => Some(*item),

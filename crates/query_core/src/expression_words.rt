@@ -5,7 +5,7 @@ ghost use Rattle.std.specs.Prelude.{◌≡◌, ◌<◌, ◌≤◌, ◌+◌, ◌/
 ghost use Rattle.std.specs.Option.{option_map};
 ghost use Rattle.query_core.specs.declared.expressions.ExprParts.{ExprParts};
 ghost use Rattle.query_core.specs.declared.words.KeyParts.{KeyParts};
-ghost use Rattle.query_core.specs.Keys.{key_number, IsInRange};
+ghost use Rattle.query_core.specs.Keys.{key_number, IsGroupInRange};
 ghost use Rattle.query_core.specs.Goals.{FitsExpr};
 ghost use Rattle.query_core.specs.Expressions.{children_of, key_field, left_number, right_number, word_of};
 ghost use Rattle.query_core.specs.Expressions.{is_logical, left_key, right_key, AreInRange, IsPacked, HasWord};
@@ -110,7 +110,7 @@ impl Key {
 pub fn expressions_are_one()
     ensures expressions { (e f : ExprParts) → IsPacked e → IsPacked f →
         word_of e ≡ word_of f → e ≡ f }
-    ensures groups { (p g : KeyParts) → IsInRange p → IsInRange g →
+    ensures groups { (p g : KeyParts) → IsGroupInRange p → IsGroupInRange g →
         key_number p ≡ key_number g → p ≡ g }
     ensures small { (e : ExprParts) → IsPacked e → FitsExpr (word_of e) }
 
@@ -163,7 +163,7 @@ impl Children {
 }
 
 fn child_number(group: KeyParts) -> u32
-    requires { IsInRange group }
+    requires { IsGroupInRange group }
     ensures number { result ≡ key_number group + 1 }
     ensures small { result < 2 ^ 13 }
 {
@@ -172,8 +172,8 @@ fn child_number(group: KeyParts) -> u32
 
 fn child_of(number: u32) -> Option<KeyParts>
     ensures { MatchOption result
-        ((g : KeyParts) → IsInRange g → key_number g + 1 ≡ number → ⊥)
-        (λ g. IsInRange g × (key_number g + 1 ≡ number)) }
+        ((g : KeyParts) → IsGroupInRange g → key_number g + 1 ≡ number → ⊥)
+        (λ g. IsGroupInRange g × (key_number g + 1 ≡ number)) }
 {
     if number == 0 {
         return None;

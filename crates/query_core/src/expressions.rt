@@ -3,9 +3,9 @@
 
 ghost use Rattle.std.specs.Prelude.{◌≡◌, MatchOption};
 ghost use Rattle.query_core.specs.Expressions.{children_of, expr_of, fields_of, logical_fields, physical_children};
-ghost use Rattle.query_core.specs.Expressions.{physical_fields, is_logical as is_logical_operator, IsJoinNumber};
-ghost use Rattle.query_core.specs.Expressions.{implements as implemented, access as access_of};
-ghost use Rattle.query_core.specs.Expressions.{unfiltered as group_unfiltered};
+ghost use Rattle.query_core.specs.Expressions.{physical_fields, is_logical as the_is_logical, IsJoinNumber};
+ghost use Rattle.query_core.specs.Expressions.{implements as the_implements, access as the_access};
+ghost use Rattle.query_core.specs.Expressions.{unfiltered as the_unfiltered};
 
 use crate::words::KeyParts;
 
@@ -175,7 +175,7 @@ impl ExprParts {
 impl Operator {
     /// Whether it says what is wanted, and not how it is made.
     pub fn is_logical(self) -> bool
-        ensures { result ≡ is_logical_operator self }
+        ensures { result ≡ the_is_logical self }
     {
         match self {
             Operator::Logical(_) => true,
@@ -229,7 +229,7 @@ impl Operator {
 
 /// Whether the operator of this number says what is wanted, and not how it is made.
 pub(crate) fn is_logical_number(number: u32) -> bool
-    ensures { (o : Operator) → (fields_of o).number ≡ number → result ≡ is_logical_operator o }
+    ensures { (o : Operator) → (fields_of o).number ≡ number → result ≡ the_is_logical o }
 {
     matches!(number, 1 | 4 | 7 | 8 | 12 | 15)
 }
@@ -268,7 +268,7 @@ impl Logical {
 impl Physical {
     /// The logical operator of the group that it implements.
     pub fn implements(self, group: KeyParts) -> Logical
-        ensures { result ≡ implemented group self }
+        ensures { result ≡ the_implements group self }
     {
         match self {
             Physical::Scan => Logical::Get,
@@ -286,7 +286,7 @@ impl Physical {
 
     /// How it comes to its rows.
     pub fn access(self) -> Access
-        ensures { result ≡ access_of self }
+        ensures { result ≡ the_access self }
     {
         match self {
             Physical::Scan => Access::Direct,
@@ -342,7 +342,7 @@ impl Physical {
 
 /// The rows of a table before its own predicates are applied.
 fn unfiltered(group: KeyParts) -> KeyParts
-    ensures { result ≡ group_unfiltered group }
+    ensures { result ≡ the_unfiltered group }
 {
     match group {
         KeyParts::Get(table) => KeyParts::Get(table),

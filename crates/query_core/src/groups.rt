@@ -3,10 +3,10 @@
 
 ghost use Rattle.std.specs.Prelude.{◌≡◌, ◌<◌, ◌^◌, IsTrue, ◌↔◌, length};
 ghost use Rattle.query_core.specs.Connected.{IsConnected, AreLinked};
-ghost use Rattle.query_core.specs.Items.{is_column_of as column_of};
-ghost use Rattle.query_core.specs.Keys.{is_own, has_own, lies_in, IsGroup, IsKey, Names, top_of, input_of};
+ghost use Rattle.query_core.specs.Items.{is_column_of as the_is_column_of};
+ghost use Rattle.query_core.specs.Keys.{is_own, has_own, lies_in, IsGroup, IsKey, NamesGroup, top_of, input_of};
 ghost use Rattle.query_core.specs.Keys.{root_of, group_of_table, is_column_in, is_grouped_by, is_aggregate};
-ghost use Rattle.query_core.specs.Keys.{key_number, has_item as holds_item};
+ghost use Rattle.query_core.specs.Keys.{key_number, has_item as the_has_item};
 
 use crate::predicate::{Operand, Pred};
 use crate::query::Query;
@@ -40,7 +40,7 @@ impl Query {
 
     /// The key of the whole query's group.
     pub fn root(&self) -> Key
-        ensures { Names self.now result (root_of self.now) }
+        ensures { NamesGroup self.now result (root_of self.now) }
     {
         if self.grouped {
             return Key::make(KeyParts::Agg);
@@ -51,7 +51,7 @@ impl Query {
     /// Whether the item is a column of the group. Aggregates are numbered after the items.
     pub fn has_item(&self, key: Key, item: u32) -> bool
         requires { IsKey self.now key }
-        ensures { (g : KeyParts) → Names self.now key g → result ≡ holds_item self.now g item }
+        ensures { (g : KeyParts) → NamesGroup self.now key g → result ≡ the_has_item self.now g item }
     {
         self.group_has_item(self.group(key), item)
     }
@@ -59,8 +59,8 @@ impl Query {
     /// The group that the key names.
     pub fn group(&self, key: Key) -> KeyParts
         requires { IsKey self.now key }
-        ensures named { Names self.now key result }
-        ensures only { (g : KeyParts) → Names self.now key g → g ≡ result }
+        ensures named { NamesGroup self.now key result }
+        ensures only { (g : KeyParts) → NamesGroup self.now key g → g ≡ result }
     {
         match key.parts() {
             Some(group) => group,
@@ -152,7 +152,7 @@ impl Query {
 
     /// The same as `has_item`, of a group.
     pub fn group_has_item(&self, group: KeyParts, item: u32) -> bool
-        ensures { result ≡ holds_item self.now group item }
+        ensures { result ≡ the_has_item self.now group item }
     {
         match group {
             KeyParts::Get(table) => self.is_column_of(table, item),
@@ -165,7 +165,7 @@ impl Query {
 
     /// Whether the item is a column of the table.
     pub fn is_column_of(&self, table: u32, item: u32) -> bool
-        ensures { result ≡ column_of self.now.items table item }
+        ensures { result ≡ the_is_column_of self.now.items table item }
     {
         match self.items.as_slice().get(item as usize) {
             Some(column) => column.table == table,

@@ -2,12 +2,12 @@
 #![tactic(auto)]
 
 ghost use Rattle.std.specs.Prelude.{◌≡◌, ℕ, IsTrue, ◌↔◌};
-ghost use Rattle.query_core.specs.Keys.{IsInRange, top_of};
+ghost use Rattle.query_core.specs.Keys.{IsGroupInRange, top_of};
 ghost use Rattle.query_core.specs.Expressions.{children_of, logical_fields, physical_fields};
 ghost use Rattle.query_core.specs.Expressions.{AreInRange, FallsInto, HasAccess, HasIndex, HasLogical, HasPhysical};
 ghost use Rattle.query_core.specs.Expressions.{HasShape, IsAggregated, IsCandidate, IsCandidateWord, IsFiltered};
 ghost use Rattle.query_core.specs.Expressions.{IsJoin, IsPacked, IsPartial};
-ghost use Rattle.query_core.specs.Expressions.{table_in as table_of_group};
+ghost use Rattle.query_core.specs.Expressions.{table_in as the_table_in};
 
 use crate::expressions::{Access, ExprParts, Logical, Operator, Physical};
 use crate::query::Query;
@@ -33,7 +33,7 @@ impl Query {
     }
 
     pub(crate) fn has_shape(&self, group: KeyParts, operator: Operator) -> bool
-        requires group { IsInRange group }
+        requires group { IsGroupInRange group }
         requires children { AreInRange (children_of operator) }
         ensures { IsTrue result ↔ HasShape self.now group operator }
     {
@@ -59,7 +59,7 @@ impl Query {
 
     // A physical operator, where the group can have the logical one that it implements.
     fn has_physical(&self, group: KeyParts, operator: Physical) -> bool
-        requires group { IsInRange group }
+        requires group { IsGroupInRange group }
         requires children { AreInRange (physical_fields operator).children }
         ensures { IsTrue result ↔ HasPhysical self.now group operator }
     {
@@ -86,8 +86,8 @@ impl Query {
     }
 
     fn is_join_of(&self, group: KeyParts, left: KeyParts, right: KeyParts) -> bool
-        requires left { IsInRange left }
-        requires right { IsInRange right }
+        requires left { IsGroupInRange left }
+        requires right { IsGroupInRange right }
         ensures { IsTrue result ↔ IsJoin self.now group left right }
     {
         match group {
@@ -97,8 +97,8 @@ impl Query {
     }
 
     fn are_sides(&self, set: u32, left: KeyParts, right: KeyParts) -> bool
-        requires left { IsInRange left }
-        requires right { IsInRange right }
+        requires left { IsGroupInRange left }
+        requires right { IsGroupInRange right }
         ensures { IsTrue result ↔ ((a b : ℕ) × FallsInto self.now set a b ×
             (left ≡ top_of self.now a) × (right ≡ top_of self.now b)) }
     {
@@ -124,7 +124,7 @@ impl Query {
 
 /// The table whose rows a group has.
 pub fn table_in(group: KeyParts) -> u32
-    ensures { result ≡ table_of_group group }
+    ensures { result ≡ the_table_in group }
 {
     match group {
         KeyParts::Get(table) => table,

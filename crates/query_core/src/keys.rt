@@ -2,7 +2,7 @@
 #![tactic(auto)]
 
 ghost use Rattle.std.specs.Prelude.{◌≡◌, ◌<◌, ◌^◌, ◌↔◌, IsTrue, MatchOption};
-ghost use Rattle.query_core.specs.Keys.{key_number, tables_of, IsInRange};
+ghost use Rattle.query_core.specs.Keys.{key_number, tables_of, IsGroupInRange};
 
 use crate::sets;
 use crate::words::{Key, KeyParts};
@@ -19,7 +19,7 @@ pub const FIRST_SET_KEY: u32 = 1024;
 impl Key {
     /// The key of a group.
     pub fn make(parts: KeyParts) -> Key
-        requires { IsInRange parts }
+        requires { IsGroupInRange parts }
         ensures number { result.0 ≡ key_number parts }
         ensures small { result.0 < KEYS }
     {
@@ -35,8 +35,8 @@ impl Key {
     /// The group that a key names.
     pub fn parts(self) -> Option<KeyParts>
         ensures { MatchOption result
-            ((p : KeyParts) → IsInRange p → key_number p ≡ self.0 → ⊥)
-            (λ p. IsInRange p × (key_number p ≡ self.0)) }
+            ((p : KeyParts) → IsGroupInRange p → key_number p ≡ self.0 → ⊥)
+            (λ p. IsGroupInRange p × (key_number p ≡ self.0)) }
     {
         match self.0 {
             0..10 => Some(KeyParts::Get(self.0)),
@@ -52,7 +52,7 @@ impl Key {
 impl KeyParts {
     /// Whether a key can name the group, which needn't be one of a query's.
     pub fn is_in_range(self) -> bool
-        ensures { IsTrue result ↔ IsInRange self }
+        ensures { IsTrue result ↔ IsGroupInRange self }
     {
         match self {
             KeyParts::Get(table) => table < 10,
@@ -65,7 +65,7 @@ impl KeyParts {
 
     /// The tables that the group joins. A group of GROUP BY joins none.
     pub fn tables(self) -> u32
-        requires { IsInRange self }
+        requires { IsGroupInRange self }
         ensures { result ≡ tables_of self }
     {
         match self {

@@ -9,9 +9,9 @@ ghost use Rattle.query_core.specs.declared.predicate.Pred.{Pred};
 ghost use Rattle.query_core.specs.declared.table.Item.{Item};
 ghost use Rattle.query_core.specs.declared.table.QueryTable.{QueryTable};
 ghost use Rattle.query_core.specs.Links.{AreLinks, AddsTrueLinks, StartsComponent, JoinsComponents};
-ghost use Rattle.query_core.specs.Links.{link_of as link_by, predicate_links as links_by};
-ghost use Rattle.query_core.specs.Links.{right_table as table_right, table_of as table_at};
-ghost use Rattle.query_core.specs.Links.{link_between as link_over};
+ghost use Rattle.query_core.specs.Links.{link_of as the_link_of, predicate_links as the_predicate_links};
+ghost use Rattle.query_core.specs.Links.{right_table as the_right_table, table_of as the_table_of};
+ghost use Rattle.query_core.specs.Links.{link_between as the_link_between};
 
 use crate::connected::reached;
 use crate::predicate::{Link, Operand, Pred};
@@ -43,11 +43,11 @@ pub fn links_are_one()
         AreLinks tables items preds others → others ≡ links }
     ensures joined { (tables : List QueryTable) (items : List Item) (preds : List Pred) →
         (links : List Link) → AreLinks tables items preds links →
-        JoinsComponents (length tables) (links_by items preds) links }
+        JoinsComponents (length tables) (the_predicate_links items preds) links }
 {}
 
 fn predicate_links(alloc: Global, items: &[Item], preds: &[Pred]) -> Result<Vec<Link>, AllocError>
-    ensures { IfOk result (λ made. made.items ≡ links_by items.now preds.now) }
+    ensures { IfOk result (λ made. made.items ≡ the_predicate_links items.now preds.now) }
 {
     let mut made = Vec::new(alloc);
     for pred in preds {
@@ -59,13 +59,13 @@ fn predicate_links(alloc: Global, items: &[Item], preds: &[Pred]) -> Result<Vec<
 }
 
 fn link_of(items: &[Item], pred: &Pred) -> Option<Link>
-    ensures { result ≡ link_by items.now pred.now }
+    ensures { result ≡ the_link_of items.now pred.now }
 {
     link_between(table_of(items, pred.left), right_table(items, &pred.right))
 }
 
 fn link_between(left: Option<u32>, right: Option<u32>) -> Option<Link>
-    ensures { result ≡ link_over left right }
+    ensures { result ≡ the_link_between left right }
 {
     match (left, right) {
         (Some(a), Some(b)) if a != b => Some(Link { a, b }),
@@ -74,7 +74,7 @@ fn link_between(left: Option<u32>, right: Option<u32>) -> Option<Link>
 }
 
 fn right_table(items: &[Item], operand: &Operand) -> Option<u32>
-    ensures { result ≡ table_right items.now operand.now }
+    ensures { result ≡ the_right_table items.now operand.now }
 {
     match operand {
         Operand::Item(number) => table_of(items, *number),
@@ -84,7 +84,7 @@ fn right_table(items: &[Item], operand: &Operand) -> Option<u32>
 }
 
 fn table_of(items: &[Item], number: u32) -> Option<u32>
-    ensures { result ≡ table_at items.now number }
+    ensures { result ≡ the_table_of items.now number }
 {
     match items.get(number as usize) {
         Some(item) => Some(item.table),

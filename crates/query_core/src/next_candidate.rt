@@ -4,10 +4,10 @@
 ghost use Rattle.std.specs.Prelude.{◌≡◌, ℕ, ◌+◌, ◌<◌, ◌≤◌, ◌^◌, ◌↔◌, MatchOption};
 ghost use Rattle.query_core.specs.declared.expressions.ExprParts.{ExprParts};
 ghost use Rattle.query_core.specs.declared.words.KeyParts.{KeyParts};
-ghost use Rattle.query_core.specs.Keys.{IsInRange, IsGroup, IsKey, Names};
-ghost use Rattle.query_core.specs.Expressions.{word_of, table_in as table_of_group, AreInRange, IsPacked};
+ghost use Rattle.query_core.specs.Keys.{IsGroupInRange, IsGroup, IsKey, NamesGroup};
+ghost use Rattle.query_core.specs.Expressions.{word_of, table_in as the_table_in, AreInRange, IsPacked};
 ghost use Rattle.query_core.specs.Candidates.{IsAfter, IsNext, IsLast};
-ghost use Rattle.query_core.specs.Finding.{expr, index_count as index_count_of, sooner_of};
+ghost use Rattle.query_core.specs.Finding.{expr, index_count as the_index_count, sooner_of};
 ghost use Rattle.query_core.specs.Finding.{number_of, index_of, left_of};
 ghost use Rattle.query_core.specs.Finding.{FindsFrom, IsAt, IsHeldBy, IsJoined, IsMadeOf, IsOver};
 
@@ -20,7 +20,7 @@ impl Query {
     /// The expression of the next word after this one, or of the first word, that a group can hold.
     pub fn next_candidate(&self, key: Key, after: Option<Expr>) -> Option<Expr>
         requires { IsKey self.now key }
-        ensures { (g : KeyParts) → Names self.now key g →
+        ensures { (g : KeyParts) → NamesGroup self.now key g →
             MatchOption result (IsLast self.now g after) (λ next. IsNext self.now g after next.0) }
     {
         self.next_in(self.group(key), bound_after(after)?)
@@ -126,7 +126,7 @@ impl Query {
 
     // The indexes by which an operator may read the table are below this number; so is 0, where it reads none.
     fn index_limit(&self, table: u32) -> usize
-        ensures all { index_count_of self.now table ≤ result }
+        ensures all { the_index_count self.now table ≤ result }
         ensures some { 0 < result }
         ensures few { result ≤ 16 }
     {
@@ -136,7 +136,7 @@ impl Query {
 
     // How many indexes the table has.
     pub(crate) fn index_count(&self, table: u32) -> usize
-        ensures { result ≡ index_count_of self.now table }
+        ensures { result ≡ the_index_count self.now table }
     {
         match self.tables.as_slice().get(table as usize) {
             Some(found) => found.indexes.len(),
@@ -147,7 +147,7 @@ impl Query {
 
 // The number of the first operator with which a word of the group may not be below the bound.
 fn first_number(group: KeyParts, bound: u64) -> u64
-    requires { IsInRange group }
+    requires { IsGroupInRange group }
     ensures { (e : ExprParts) → IsPacked e → e.group ≡ group → number_of e < result →
         word_of e < bound }
 {

@@ -6,7 +6,7 @@ ghost use Rattle.query_core.specs.declared.query.Query.{Query};
 ghost use Rattle.query_core.specs.declared.words.KeyParts.{KeyParts};
 ghost use Rattle.query_core.specs.Sets.{Has};
 ghost use Rattle.query_core.specs.Connected.{IsConnected, AreLinked};
-ghost use Rattle.query_core.specs.Keys.{key_number, top_of, tables_of, IsInRange, IsGroup};
+ghost use Rattle.query_core.specs.Keys.{key_number, top_of, tables_of, IsGroupInRange, IsGroup};
 ghost use Rattle.query_core.specs.Expressions.{FallsInto};
 
 use crate::query::Query;
@@ -17,9 +17,9 @@ impl Query {
     /// The tables whose group has this number as a left child.
     pub(crate) fn left_side(&self, number: u32) -> Option<u32>
         ensures { MatchOption result
-            ((a : ℕ) → IsInRange (KeyParts.Join a) → 0 < a →
+            ((a : ℕ) → IsGroupInRange (KeyParts.Join a) → 0 < a →
             key_number (top_of self.now a) + 1 ≡ number → ⊥)
-            (λ a. IsInRange (KeyParts.Join a) × (key_number (top_of self.now a) + 1 ≡ number)) }
+            (λ a. IsGroupInRange (KeyParts.Join a) × (key_number (top_of self.now a) + 1 ≡ number)) }
     {
         if number == 0 {
             return None;

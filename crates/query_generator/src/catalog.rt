@@ -1,7 +1,7 @@
 //! The catalogue of a number.
 ghost use Rattle.std.specs.Prelude.{◌≡◌, ◌<◌, ◌≤◌, ◌+◌, ◌*◌, IfOk, map};
 ghost use Rattle.std.specs.List.{range_with_len};
-ghost use Rattle.query_generator.specs.Draws.{draw as draw_of};
+ghost use Rattle.query_generator.specs.Draws.{draw as the_draw};
 ghost use Rattle.query_generator.specs.Catalog.{catalog_of, columns_with, placing_of, table_name, table_of, table_with};
 
 use crate::draws::Draws;
@@ -64,9 +64,9 @@ fn table_with(alloc: Global, i: u32, rows: u64, values: u64) -> Result<TableInfo
 /// Table `i`, by the next two draws.
 fn table_of(alloc: Global, number: u64, i: u32, draws: &mut Draws) -> Result<TableInfo, AllocError>
     requires place { i < 8 }
-    requires drawn { draws.old ≡ draw_of number (2 * i) }
+    requires drawn { draws.old ≡ the_draw number (2 * i) }
     ensures table { IfOk result (λ table. table ≡ table_of number i) }
-    ensures drawn { draws.new ≡ draw_of number (2 * (i + 1)) }
+    ensures drawn { draws.new ≡ the_draw number (2 * (i + 1)) }
 {
     let rows = 100 * draws.draw() as u64;
     let values = 1 + (draws.draw() % 1_000) as u64;

@@ -1,7 +1,8 @@
 //! The query of a shape.
 ghost use Rattle.std.specs.Prelude.{◌≡◌, ◌<◌, [], ◌∷◌, ◌++◌, if◌then◌else◌, IfOk, OnOk, map};
 ghost use Rattle.std.specs.List.{flat_map, range_with_len};
-ghost use Rattle.query_generator.specs.Select.{column_of, from_of, is_joined, item_of_first, join_of, joins_of, key_of_first, select_of};
+ghost use Rattle.query_generator.specs.Select.{column_of, from_of, is_joined, item_of_first, join_of, joins_of};
+ghost use Rattle.query_generator.specs.Select.{key_of_first, select_of};
 
 use crate::catalog::{table_name, text_of};
 use crate::shape::GenShape;

@@ -2,5 +2,5 @@
 use Rattle.std.specs.Prelude.{ℕ, ◌≡◌, List, ◌++◌}
 
 -- the text after is the one before, and behind it the piece
-abbrev pub Adds : List ℕ → List ℕ → List ℕ → Type 0
-Adds before piece after = after ≡ before ++ piece
+abbrev pub AddsText : List ℕ → List ℕ → List ℕ → Type 0
+AddsText before piece after = after ≡ before ++ piece

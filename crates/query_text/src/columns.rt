@@ -3,7 +3,7 @@
 
 ghost use Rattle.std.specs.Prelude.{◌≡◌, IfOk, OnOk, string_bytes};
 ghost use Rattle.query_text.specs.Columns as texts;
-ghost use Rattle.query_text.specs.Added.{Adds};
+ghost use Rattle.query_text.specs.Added.{AddsText};
 
 use query_core::{Agg, AggFunc, Item, Query};
 use std::alloc::{AllocError, Global};
@@ -19,7 +19,7 @@ pub fn computed_text(alloc: Global, query: &Query, number: u32) -> Result<String
 
 /// Adds a column or an aggregate as the output has it.
 pub fn push_computed(query: &Query, number: u32, text: &mut String) -> Result<(), AllocError>
-    ensures ok { OnOk result (Adds (string_bytes text.old)
+    ensures ok { OnOk result (AddsText (string_bytes text.old)
         (texts.computed_text query.now number) (string_bytes text.new)) }
 {
     match query.items.as_slice().get(number as usize) {
@@ -30,7 +30,7 @@ pub fn push_computed(query: &Query, number: u32, text: &mut String) -> Result<()
 
 /// Adds a column, or the output name of an aggregate, as an order has it.
 pub fn push_sorted(query: &Query, number: u32, text: &mut String) -> Result<(), AllocError>
-    ensures ok { OnOk result (Adds (string_bytes text.old)
+    ensures ok { OnOk result (AddsText (string_bytes text.old)
         (texts.sorted_text query.now number) (string_bytes text.new)) }
 {
     match query.items.as_slice().get(number as usize) {
@@ -41,7 +41,7 @@ pub fn push_sorted(query: &Query, number: u32, text: &mut String) -> Result<(), 
 
 /// Adds the column of this number.
 pub fn push_column(query: &Query, number: u32, text: &mut String) -> Result<(), AllocError>
-    ensures ok { OnOk result (Adds (string_bytes text.old)
+    ensures ok { OnOk result (AddsText (string_bytes text.old)
         (texts.column_text query.now number) (string_bytes text.new)) }
 {
     match query.items.as_slice().get(number as usize) {
@@ -61,7 +61,7 @@ pub fn table_text(query: &Query, table: u32) -> &str
 }
 
 fn push_item(query: &Query, item: &Item, text: &mut String) -> Result<(), AllocError>
-    ensures ok { OnOk result (Adds (string_bytes text.old)
+    ensures ok { OnOk result (AddsText (string_bytes text.old)
         (texts.item_text query.now item.now) (string_bytes text.new)) }
 {
     text.push_str(table_text(query, item.table))?;
@@ -70,7 +70,7 @@ fn push_item(query: &Query, item: &Item, text: &mut String) -> Result<(), AllocE
 }
 
 fn push_aggregate_at(query: &Query, place: usize, text: &mut String) -> Result<(), AllocError>
-    ensures ok { OnOk result (Adds (string_bytes text.old)
+    ensures ok { OnOk result (AddsText (string_bytes text.old)
         (texts.aggregate_text_at query.now place) (string_bytes text.new)) }
 {
     match query.aggs.as_slice().get(place) {
@@ -80,7 +80,7 @@ fn push_aggregate_at(query: &Query, place: usize, text: &mut String) -> Result<(
 }
 
 fn push_aggregate(query: &Query, agg: &Agg, text: &mut String) -> Result<(), AllocError>
-    ensures ok { OnOk result (Adds (string_bytes text.old)
+    ensures ok { OnOk result (AddsText (string_bytes text.old)
         (texts.aggregate_text query.now agg.now) (string_bytes text.new)) }
 {
     text.push_str(function_text(agg.func))?;
@@ -103,7 +103,7 @@ fn function_text(function: AggFunc) -> &'static str
 
 // The column that an aggregate goes over, or a star.
 fn push_argument(query: &Query, argument: Option<u32>, text: &mut String) -> Result<(), AllocError>
-    ensures ok { OnOk result (Adds (string_bytes text.old)
+    ensures ok { OnOk result (AddsText (string_bytes text.old)
         (texts.argument_text query.now argument) (string_bytes text.new)) }
 {
     match argument {

@@ -4,7 +4,7 @@
 ghost use Rattle.std.specs.Prelude.{◌≡◌, IfOk, OnOk, string_bytes};
 ghost use Rattle.request_props.specs.Found.{element_of, elements_of};
 ghost use Rattle.request_props.specs.Numbered.{IsProps, list_of, order_of};
-ghost use Rattle.query_text.specs.Added.{Adds};
+ghost use Rattle.query_text.specs.Added.{AddsText};
 ghost use Rattle.query_text.specs.Lists as texts;
 
 use crate::columns::{push_column, push_sorted};
@@ -52,7 +52,7 @@ pub fn push_order(
     text: &mut String,
 ) -> Result<(), AllocError>
     requires { IsProps query.now props.now }
-    ensures ok { OnOk result (Adds (string_bytes text.old)
+    ensures ok { OnOk result (AddsText (string_bytes text.old)
         (texts.order_text query.now (order_of query.now number)) (string_bytes text.new)) }
 {
     push_keys(query, keys_of(query, props, number), text)
@@ -66,7 +66,7 @@ pub fn push_list(
     text: &mut String,
 ) -> Result<(), AllocError>
     requires { IsProps query.now props.now }
-    ensures ok { OnOk result (Adds (string_bytes text.old)
+    ensures ok { OnOk result (AddsText (string_bytes text.old)
         (texts.list_text query.now (list_of query.now number)) (string_bytes text.new)) }
 {
     push_columns(query, columns_of(query, props, number), text)
@@ -96,7 +96,7 @@ fn columns_of<'a>(query: &Query, props: &'a Props, number: u32) -> &'a [u32]
 }
 
 fn push_keys(query: &Query, keys: &[OrderKey], text: &mut String) -> Result<(), AllocError>
-    ensures ok { OnOk result (Adds (string_bytes text.old)
+    ensures ok { OnOk result (AddsText (string_bytes text.old)
         (texts.order_text query.now (elements_of keys.now)) (string_bytes text.new)) }
 {
     match keys.split_first() {
@@ -110,7 +110,7 @@ fn push_keys(query: &Query, keys: &[OrderKey], text: &mut String) -> Result<(), 
 
 // The elements that are not the first, each with a comma and a space in front.
 fn push_other_keys(query: &Query, keys: &[OrderKey], text: &mut String) -> Result<(), AllocError>
-    ensures ok { OnOk result (Adds (string_bytes text.old)
+    ensures ok { OnOk result (AddsText (string_bytes text.old)
         (texts.other_elements_text query.now (elements_of keys.now)) (string_bytes text.new)) }
 {
     for key in keys {
@@ -122,7 +122,7 @@ fn push_other_keys(query: &Query, keys: &[OrderKey], text: &mut String) -> Resul
 
 // An element, with DESC where it descends.
 fn push_key(query: &Query, key: OrderKey, text: &mut String) -> Result<(), AllocError>
-    ensures ok { OnOk result (Adds (string_bytes text.old)
+    ensures ok { OnOk result (AddsText (string_bytes text.old)
         (texts.element_text query.now (element_of key)) (string_bytes text.new)) }
 {
     push_sorted(query, key.item, text)?;
@@ -130,7 +130,7 @@ fn push_key(query: &Query, key: OrderKey, text: &mut String) -> Result<(), Alloc
 }
 
 fn push_columns(query: &Query, columns: &[u32], text: &mut String) -> Result<(), AllocError>
-    ensures ok { OnOk result (Adds (string_bytes text.old)
+    ensures ok { OnOk result (AddsText (string_bytes text.old)
         (texts.list_text query.now columns.now) (string_bytes text.new)) }
 {
     match columns.split_first() {
@@ -144,7 +144,7 @@ fn push_columns(query: &Query, columns: &[u32], text: &mut String) -> Result<(),
 
 // The columns that are not the first, each with a comma and a space in front.
 fn push_other_columns(query: &Query, columns: &[u32], text: &mut String) -> Result<(), AllocError>
-    ensures ok { OnOk result (Adds (string_bytes text.old)
+    ensures ok { OnOk result (AddsText (string_bytes text.old)
         (texts.other_columns_text query.now columns.now) (string_bytes text.new)) }
 {
     for column in columns {

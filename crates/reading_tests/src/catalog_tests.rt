@@ -7,8 +7,7 @@ use std::process::Abort;
 use std::test::Fail;
 
 /// Two tables of 1,000 rows, each hashed on its first column.
-pub const TWO_TABLES: &str =
-    "{\"version\":1,\"segments\":4,\"tables\":[\
+pub const TWO_TABLES: &str = "{\"version\":1,\"segments\":4,\"tables\":[\
     {\"name\":\"T1\",\"rows\":1000,\"distribution\":[\"a\"],\"columns\":[{\"name\":\"a\",\"ndv\":1000}]},\
     {\"name\":\"T2\",\"rows\":1000,\"distribution\":[\"a\"],\
     \"columns\":[{\"name\":\"a\",\"ndv\":1000},{\"name\":\"b\",\"ndv\":500}]}]}";

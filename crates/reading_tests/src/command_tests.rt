@@ -22,18 +22,18 @@ fn plans_the_files(command: &Command<'_>) -> bool {
 }
 
 fn has_each_option(command: &Command<'_>) -> bool {
-    let choices = command.choices;
+    let settings = command.settings;
     let options = Options {
         root: RootDist::Spread,
         off: 4100,
     };
     plans_the_files(command)
-        && choices.options == options
-        && choices.workers == 64
-        && choices.capacity == 1_048_576
-        && choices.memo
-        && choices.trace
-        && choices.by_worker
+        && settings.options == options
+        && settings.workers == 64
+        && settings.capacity == 1_048_576
+        && settings.memo
+        && settings.trace
+        && settings.by_worker
 }
 
 #[test]
@@ -47,18 +47,18 @@ fn each_option_is_read(rt: HostRuntime) -> Result<(), Fail> {
 }
 
 fn has_usual_options(command: &Command<'_>) -> bool {
-    let choices = command.choices;
+    let settings = command.settings;
     let options = Options {
         root: RootDist::One,
         off: 0,
     };
     plans_the_files(command)
-        && choices.options == options
-        && choices.workers == 1
-        && choices.capacity == 131_072
-        && !choices.memo
-        && !choices.trace
-        && !choices.by_worker
+        && settings.options == options
+        && settings.workers == 1
+        && settings.capacity == 131_072
+        && !settings.memo
+        && !settings.trace
+        && !settings.by_worker
 }
 
 #[test]
@@ -70,10 +70,10 @@ fn what_is_not_given_is_usual(rt: HostRuntime) -> Result<(), Fail> {
 
 // Whether the greatest number and eight tables in a clique are made, by two workers with room for 64.
 fn has_its_numbers(command: &Command<'_>) -> bool {
-    let choices = command.choices;
+    let settings = command.settings;
     matches!(command.task, Task::Gen(made) if is_the_greatest(made.input))
-        && choices.workers == 2
-        && choices.capacity == 64
+        && settings.workers == 2
+        && settings.capacity == 64
 }
 
 fn is_the_greatest(input: GenInput) -> bool {
@@ -91,11 +91,11 @@ fn a_number_tables_and_a_shape_are_generated(rt: HostRuntime) -> Result<(), Fail
 // Whether three stages are named: one without JoinCommute and AggToHash and with the greatest threshold, one with all
 // rules, and one with all rules and the least threshold.
 fn has_three_stages(command: &Command<'_>) -> bool {
-    let choices = command.choices;
+    let settings = command.settings;
     matches!(command.task, Task::Stages(named) if are_three_stages(named))
-        && choices.workers == 8
-        && choices.capacity == 64
-        && choices.options.root == RootDist::Spread
+        && settings.workers == 8
+        && settings.capacity == 64
+        && settings.options.root == RootDist::Spread
 }
 
 fn are_three_stages(named: StageFiles<'_>) -> bool {
@@ -133,18 +133,18 @@ fn checks_a_plan(command: &Command<'_>) -> bool {
     };
     matches!(command.task, Task::Check(named) if named.files.catalog == "c.json"
         && named.files.query == "q.sql" && named.plan == "p.txt")
-        && command.choices.options == options
+        && command.settings.options == options
 }
 
 // Whether a dump keeps its five options.
 fn dumps_a_query(command: &Command<'_>) -> bool {
-    let choices = command.choices;
+    let settings = command.settings;
     matches!(command.task, Task::Dump(files) if files.catalog == "c.json" && files.query == "q.sql")
-        && choices.capacity == 64
-        && choices.memo
-        && choices.trace
-        && choices.options.root == RootDist::Spread
-        && choices.options.off == 4
+        && settings.capacity == 64
+        && settings.memo
+        && settings.trace
+        && settings.options.root == RootDist::Spread
+        && settings.options.off == 4
 }
 
 #[test]
@@ -162,7 +162,7 @@ fn checks_dumps_and_replays_are_read(rt: HostRuntime) -> Result<(), Fail> {
     let replay = words_of(rt.alloc(), "replay --workers 8 d.txt")?;
     assert!(rt;
         matches!(read_command(&replay), Some(command)
-        if command.choices.workers == 8 && matches!(command.task, Task::Replay(file) if file == "d.txt"))
+        if command.settings.workers == 8 && matches!(command.task, Task::Replay(file) if file == "d.txt"))
     );
     Ok(())
 }

@@ -2,13 +2,11 @@
 use query_generator::{GenShape, generate};
 use std::test::Fail;
 
-const ONE_TABLE: &str =
-    "{\"version\":1,\"segments\":4,\"tables\":[\
+const ONE_TABLE: &str = "{\"version\":1,\"segments\":4,\"tables\":[\
     {\"name\":\"t0\",\"rows\":14900,\"distribution\":[\"id\"],\
     \"columns\":[{\"name\":\"id\",\"ndv\":14900},{\"name\":\"f\",\"ndv\":250}]}]}";
 
-const TWO_TABLES: &str =
-    "{\"version\":1,\"segments\":4,\"tables\":[\
+const TWO_TABLES: &str = "{\"version\":1,\"segments\":4,\"tables\":[\
     {\"name\":\"t0\",\"rows\":14900,\"distribution\":[\"id\"],\
     \"columns\":[{\"name\":\"id\",\"ndv\":14900},{\"name\":\"f\",\"ndv\":250}]},\
     {\"name\":\"t1\",\"rows\":5730500,\"distribution\":\"random\",\

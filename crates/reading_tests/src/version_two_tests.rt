@@ -8,8 +8,7 @@ use std::process::Abort;
 use std::test::Fail;
 
 /// A table of two columns, the first with a histogram of two buckets.
-pub const HISTOGRAM: &str =
-    "{\"version\":2,\"segments\":4,\"tables\":[\
+pub const HISTOGRAM: &str = "{\"version\":2,\"segments\":4,\"tables\":[\
     {\"name\":\"t\",\"rows\":1000,\"distribution\":[\"a\"],\"columns\":[{\"name\":\"a\",\"ndv\":100,\
     \"histogram\":{\"low\":1,\"buckets\":[{\"upto\":10,\"rows\":100},{\"upto\":100,\"rows\":900}]}},\
     {\"name\":\"b\",\"ndv\":10}]}]}";

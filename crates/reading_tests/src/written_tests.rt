@@ -9,20 +9,17 @@ use std::test::Fail;
 
 const NO_TABLES: &str = "{\"version\":1,\"segments\":1,\"tables\":[]}";
 
-const WITH_INDEXES: &str =
-    "{\"version\":1,\"segments\":4,\"tables\":[\
+const WITH_INDEXES: &str = "{\"version\":1,\"segments\":4,\"tables\":[\
     {\"name\":\"t\",\"rows\":0,\"distribution\":\"random\",\
     \"columns\":[{\"name\":\"a\",\"ndv\":100},{\"name\":\"b\",\"ndv\":0}],\
     \"indexes\":[[\"b\",\"a\"],[\"a\"]]}]}";
 
-const REPLICATED: &str =
-    "{\"version\":2,\"segments\":4,\"tables\":[\
+const REPLICATED: &str = "{\"version\":2,\"segments\":4,\"tables\":[\
     {\"name\":\"t\",\"rows\":10,\"distribution\":\"replicated\",\"columns\":[{\"name\":\"a\",\"ndv\":10}],\
     \"indexes\":[[\"a\"]]}]}";
 
 // The least and the greatest numbers.
-const WIDE_HISTOGRAM: &str =
-    "{\"version\":2,\"segments\":4,\"tables\":[\
+const WIDE_HISTOGRAM: &str = "{\"version\":2,\"segments\":4,\"tables\":[\
     {\"name\":\"t\",\"rows\":10,\"distribution\":\"random\",\"columns\":[{\"name\":\"a\",\"ndv\":10,\
     \"histogram\":{\"low\":-9223372036854775808,\"buckets\":[{\"upto\":-9223372036854775808,\"rows\":0},\
     {\"upto\":-1,\"rows\":1},{\"upto\":0,\"rows\":2},\

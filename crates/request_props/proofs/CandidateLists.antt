@@ -11,7 +11,7 @@ use Rattle.std.proofs.lemmas.Map.Keys.{sorted_from_strictly_increasing, below_fr
 use Rattle.std.proofs.Math.Seq.{get_or-append_seam}
 use Rattle.query_core.specs.Candidates.{IsAfter, IsNext, IsLast}
 use Rattle.query_core.specs.Expressions.{IsCandidateOf}
-use Rattle.query_core.specs.Keys.{key_number, IsGroup, Names}
+use Rattle.query_core.specs.Keys.{key_number, IsGroup, NamesGroup}
 use Rattle.query_core.specs.declared.query.Query.{Query}
 use Rattle.query_core.specs.declared.words.Expr.{Expr}
 use Rattle.query_core.specs.declared.words.KeyParts.{KeyParts}
@@ -137,7 +137,7 @@ module _ (q : Query) (group : KeyParts) where
 pub lists_more : {X : Type 0} (q : Query) (Is : KeyParts → List X → Type 0) (lists new : List (List X)) (n : ℕ)
     (list : List X) → new ≡ lists ++ list ∷ [] → length lists ≡ n
     → ((group : KeyParts) → IsGroup q group → key_number group < n → Is group (get_or lists (key_number group) []))
-    → ((group : KeyParts) → Names q (key_of n) group → Is group list)
+    → ((group : KeyParts) → NamesGroup q (key_of n) group → Is group list)
     → (group : KeyParts) → IsGroup q group → key_number group < n + 1 → Is group (get_or new (key_number group) [])
 lists_more {X} q Is lists new n list grown count each is group known within = elim (cases_lt (key_number group) n) [
   | inl below ↦

@@ -13,7 +13,7 @@ use Rattle.query_core.specs.Sets.{bit, Has, Adds, IsLeast}
 use Rattle.query_core.specs.declared.query.Query.{Query}
 use Rattle.query_core.specs.declared.words.KeyParts.{KeyParts}
 use Rattle.query_core.specs.declared.words.KeyParts.TheVariants.{Join}
-use Rattle.request_props.specs.Lying.{ListLiesIn, OrderLiesIn, items_of, Covers, IsOver, AreTablesOf}
+use Rattle.request_props.specs.Lying.{ListLiesIn, OrderLiesIn, items_of, HasTables, IsOver, AreTablesOf}
 use Rattle.request_props.specs.Numbered.{orders_of, order_among, order_of}
 use Rattle.request_props.specs.Fitting.{OrderFits}
 
@@ -35,7 +35,7 @@ over_nothing q set = (
 
 -- a list lies where its first item and the others lie
 over_first : (q : Query) (item : ℕ) (others : List ℕ) (rest both : Option ℕ) → IsOver q others rest
-    → ((set : ℕ) → Covers set both ↔ (IsTrue (is_column_in q.items set item) × Covers set rest))
+    → ((set : ℕ) → HasTables set both ↔ (IsTrue (is_column_in q.items set item) × HasTables set rest))
     → IsOver q (item ∷ others) both
 over_first q item others rest both over joined set =
     let lies = λ (number : ℕ). IsTrue (has_item q (Join set) number) in (
@@ -46,7 +46,8 @@ over_first q item others rest both over joined set =
 -- the same of a list that isn't empty
 pub over_front : (q : Query) (list : List ℕ) (rest both : Option ℕ) → 1 ≤ length list
     → IsOver q (take (length list - 1) (drop 1 list)) rest
-    → ((set : ℕ) → Covers set both ↔ (IsTrue (is_column_in q.items set (slice_index_or list 0 0)) × Covers set rest))
+    → ((set : ℕ)
+    → HasTables set both ↔ (IsTrue (is_column_in q.items set (slice_index_or list 0 0)) × HasTables set rest))
     → IsOver q list both
 over_front q [] rest both some over joined = absurd (omega (arith, some))
 over_front q (item ∷ others) rest both some over joined =
@@ -80,8 +81,8 @@ over_more q lists found new n list here grown count inside is over each k within
 ]
 
 -- a set has the tables with one more where it has that one and the others
-pub covers_added : (set tables table new : ℕ) → Adds tables table new → Covers set (Some new)
-    ↔ (IsTrue (bit set table == 1) × Covers set (Some tables))
+pub covers_added : (set tables table new : ℕ) → Adds tables table new → HasTables set (Some new)
+    ↔ (IsTrue (bit set table == 1) × HasTables set (Some tables))
 covers_added set tables table new adds = (
   λ all. (
     eq-eqb (bit set table) 1 (all table adds.this),
@@ -100,7 +101,7 @@ covers_added set tables table new adds = (
 pub covers_by : (tables set rest : ℕ) (least : Option ℕ) (test : Bool)
     → ((t : ℕ) → bit rest t ≡ bit tables t - bit set t)
     → MatchOption least ((t : ℕ) → Has rest t → ⊥) (IsLeast rest) → is_some least ≡ not test → IsTrue test
-    ↔ Covers set (Some tables)
+    ↔ HasTables set (Some tables)
 covers_by tables set rest None true each none is = (
   λ yes t has. elim (cases_eq (bit set t) 1) [
     | inl here ↦ here
@@ -123,9 +124,9 @@ covers_by tables set rest (Some t) false each least is = (
 -- the tables of the list at a place are those that were found there
 pub over_at : (q : Query) (lists : List (List ℕ)) (found : List (Option ℕ)) (k set : ℕ) (tables : Option ℕ)
     → AreTablesOf q lists found → k < length found
-    → tables ≡ slice_index_or found k None → ListLiesIn q (Join set) (slice_index_or lists k []) ↔ Covers set tables
+    → tables ≡ slice_index_or found k None → ListLiesIn q (Join set) (slice_index_or lists k []) ↔ HasTables set tables
 over_at q lists found k set tables are within is =
-    subst (λ (t : Option ℕ). ListLiesIn q (Join set) (slice_index_or lists k []) ↔ Covers set t) (sym is)
+    subst (λ (t : Option ℕ). ListLiesIn q (Join set) (slice_index_or lists k []) ↔ HasTables set t) (sym is)
     (are.each k (omega (arith, are.count)) set)
 
 -- an order lies in a group by its items
@@ -144,7 +145,7 @@ items_lie q group order lies k d within =
 pub order_over : (q : Query) (order place set : ℕ) (tables : Option ℕ) (test : Bool) → order ≡ suc place
     → (found : List (Option ℕ))
     → AreTablesOf q (map items_of (orders_of q)) found → place < length found → tables ≡ slice_index_or found place None
-    → IsTrue test ↔ Covers set tables → IsTrue test ↔ OrderFits q (Join set) order
+    → IsTrue test ↔ HasTables set tables → IsTrue test ↔ OrderFits q (Join set) order
 order_over q order place set tables test next found are within is covers =
     let orders = orders_of q in
     let many : length found ≡ length orders = rw length-map at are.count in

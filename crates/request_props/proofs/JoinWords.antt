@@ -5,7 +5,7 @@ use Rattle.std.specs.List.{All, Contains}
 use Rattle.std.proofs.lemmas.Bool.{cases_lt}
 use Rattle.std.proofs.lemmas.List.{get_or-map, length-map}
 use Rattle.std.proofs.lemmas.List.Elements.{All-map}
-use Rattle.query_core.specs.Keys.{IsInRange, IsGroup, key_number, top_of}
+use Rattle.query_core.specs.Keys.{IsGroupInRange, IsGroup, key_number, top_of}
 use Rattle.query_core.specs.Expressions.{fields, fields_of, children_of, packed, word_of, FallsInto, IsJoinNumber}
 use Rattle.query_core.specs.Expressions.{AreInRange, IsPacked}
 use Rattle.query_core.specs.Finding.{expr, number_of, IsAt, IsBefore, IsHeldBy, IsJoined}
@@ -61,7 +61,7 @@ words_ordered : (set number : ℕ) (one other : Sides) → AreBothInRange one �
 words_ordered set number one other known less = omega (arith, key_small one.right known.1, less)
 
 -- the parts of a join fit a word
-pub join_packed : (set number : ℕ) (sides : Sides) (o : Operator) → IsInRange (Join set) → AreBothInRange sides
+pub join_packed : (set number : ℕ) (sides : Sides) (o : Operator) → IsGroupInRange (Join set) → AreBothInRange sides
     → fields_of o ≡ fields number 0 (Two sides.left sides.right) → IsPacked (expr (Join set) o)
 join_packed set number sides o small known is = record {
   group = small;
@@ -69,7 +69,7 @@ join_packed set number sides o small known is = record {
   children = subst AreInRange (sym (ap (λ (f : Fields). f.children) is)) known;
 }
 
-module _ (q : Query) (set : ℕ) (small : IsInRange (Join set)) where
+module _ (q : Query) (set : ℕ) (small : IsGroupInRange (Join set)) where
   -- groups of sides are some that a query can have
   in_range : (sides : Sides) → AreSides q set sides → AreBothInRange sides
   in_range sides (a, b, falls, is) = subst AreBothInRange (sym is) (sides_in_range q set small a b falls)

@@ -6,7 +6,7 @@ use Rattle.std.proofs.Math.Nat.{pow-le-pow_right}
 use Rattle.std.proofs.lemmas.Bool.{cond_both, eqb-true}
 use Rattle.std.proofs.lemmas.Nat.{le_or_l, le_or_r}
 use Rattle.query_core.specs.Sets.{bit, only_of}
-use Rattle.query_core.specs.Keys.{key_number, IsInRange, tables_of, top_of}
+use Rattle.query_core.specs.Keys.{key_number, IsGroupInRange, tables_of, top_of}
 use Rattle.query_core.specs.Expressions.{FallsInto}
 use Rattle.query_core.specs.declared.query.Query.{Query}
 use Rattle.query_core.specs.declared.words.KeyParts.{KeyParts}
@@ -16,7 +16,7 @@ use Rattle.request_props.specs.Joins.{IsSide, HasSides, AreSidesAt}
 use Rattle.request_props.specs.declared.candidates.sides.Sides.{Sides}
 
 -- a set of the query's tables is one of the first ten tables
-pub of_tables_small : (q : Query) (tables : ℕ) → tables < 2 ^ length q.tables → IsInRange (Join tables)
+pub of_tables_small : (q : Query) (tables : ℕ) → tables < 2 ^ length q.tables → IsGroupInRange (Join tables)
 of_tables_small q tables of_tables =
     let few : 2 ^ length q.tables ≤ 2 ^ 10 = pow-le-pow_right (omega arith) q.tables_valid.few in
     omega (arith, of_tables, few)
@@ -44,8 +44,9 @@ same_sides left other right rest first second =
     ap (λ (g : KeyParts). let x : Sides = record { left = g; right = right } in x) first
     ∙ ap (λ (g : KeyParts). let x : Sides = record { left = other; right = g } in x) second
 
-module _ (q : Query) (set left : ℕ) (group : KeyParts) (tables others : ℕ) (small : IsInRange (Join set))
-    (in_range : IsInRange group) (number : key_number group ≡ left) (joined : tables ≡ tables_of group) (rest : (t : ℕ)
+module _ (q : Query) (set left : ℕ) (group : KeyParts) (tables others : ℕ) (small : IsGroupInRange (Join set))
+    (in_range : IsGroupInRange group) (number : key_number group ≡ left) (joined : tables ≡ tables_of group)
+    (rest : (t : ℕ)
     → bit others t ≡ bit set t - bit tables t) where
   -- sides with a left key of this number are these tables and the others, and the group joins these
   pub own_sides : HasSides q set left → FallsInto q set tables others × (group ≡ top_of q tables)

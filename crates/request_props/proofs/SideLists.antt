@@ -11,7 +11,7 @@ use Rattle.std.proofs.lemmas.Nat.{or_disjoint}
 use Rattle.std.proofs.lemmas.List.{map-append}
 use Rattle.std.proofs.lemmas.List.Elements.{All-push, All-map, Contains-append_left, Contains-push}
 use Rattle.query_core.specs.Sets.{bit}
-use Rattle.query_core.specs.Keys.{key_number, IsInRange, has_own, group_of_table, top_of}
+use Rattle.query_core.specs.Keys.{key_number, IsGroupInRange, has_own, group_of_table, top_of}
 use Rattle.query_core.specs.Expressions.{FallsInto}
 use Rattle.query_core.specs.declared.keys.TheConstants.{FIRST_SET_KEY, ONE_TABLE_KEYS}
 use Rattle.query_core.specs.declared.query.Query.{Query}
@@ -24,7 +24,8 @@ use Rattle.request_props.specs.Joins.{HasSides, tops_of, AreSides, AreSidesAt, l
 use Rattle.request_props.specs.declared.candidates.sides.Sides.{Sides}
 
 -- the group of one table has a key among the first, and that of several the set's
-pub top_number : (q : Query) (a : ℕ) → IsInRange (Join a) → (key_number (top_of q a) < ONE_TABLE_KEYS) ⊎ (key_number (top_of q a) ≡ FIRST_SET_KEY + a)
+pub top_number : (q : Query) (a : ℕ) → IsGroupInRange (Join a)
+    → (key_number (top_of q a) < ONE_TABLE_KEYS) ⊎ (key_number (top_of q a) ≡ FIRST_SET_KEY + a)
 top_number q a small =
     let least = trailing_zeros w32 a in
     let there : (a == 2 ^ least) ≡ true → least < 10 =
@@ -82,7 +83,7 @@ module _ (q : Query) (set : ℕ) where
       ])
       so_far
 
-  module _ (small : IsInRange (Join set)) where
+  module _ (small : IsGroupInRange (Join set)) where
     -- sides with the next key come behind them
     pub sides_more : (bound : ℕ) (found : List Sides) (new : Sides) → AreSidesAt q set bound new
         → AreSidesBelow q set bound found → AreSidesBelow q set (bound + 1) (found ++ new ∷ [])

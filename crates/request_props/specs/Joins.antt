@@ -4,7 +4,7 @@ use Rattle.std.specs.Prelude.{ℕ, zero, suc, ◌≡◌, ◌+◌, ◌-◌, ◌<�
 use Rattle.std.specs.List.{All, Contains}
 use Rattle.std.specs.List.Sorted.{IsStrictlyIncreasing}
 use Rattle.query_core.specs.Connected.{IsConnected}
-use Rattle.query_core.specs.Keys.{key_number, IsInRange, top_of}
+use Rattle.query_core.specs.Keys.{key_number, IsGroupInRange, top_of}
 use Rattle.query_core.specs.Expressions.{fields, packed, word_of, FallsInto}
 use Rattle.query_core.specs.Finding.{expr}
 use Rattle.query_core.specs.declared.expressions.Children.TheVariants.{Two}
@@ -54,7 +54,7 @@ pub record AreSidesBelow (q : Query) (set bound : ℕ) (found : List Sides) : Ty
 
 -- both groups are some that a query can have
 abbrev pub AreBothInRange : Sides → Type 0
-AreBothInRange sides = IsInRange sides.left × IsInRange sides.right
+AreBothInRange sides = IsGroupInRange sides.left × IsGroupInRange sides.right
 
 -- the word of the join of a set over its sides by the operator of this number
 abbrev pub join_word : ℕ → ℕ → Sides → ℕ

@@ -20,13 +20,13 @@ abbrev pub items_of : List ℕ → List ℕ
 items_of order = map (λ element. element / 2) order
 
 -- the set has each of the tables, where these are there
-abbrev pub Covers : ℕ → Option ℕ → Type 0
-Covers set None = ⊥
-Covers set (Some tables) = (t : ℕ) → Has tables t → Has set t
+abbrev pub HasTables : ℕ → Option ℕ → Type 0
+HasTables set None = ⊥
+HasTables set (Some tables) = (t : ℕ) → Has tables t → Has set t
 
 -- the list lies in the joins of the sets that have all these tables, and of no others
 abbrev pub IsOver : Query → List ℕ → Option ℕ → Type 0
-IsOver q list tables = (set : ℕ) → ListLiesIn q (Join set) list ↔ Covers set tables
+IsOver q list tables = (set : ℕ) → ListLiesIn q (Join set) list ↔ HasTables set tables
 
 -- the tables of each list's columns; none for a list with an item that is no column
 pub record AreTablesOf (q : Query) (lists : List (List ℕ)) (found : List (Option ℕ)) : Type 0 where

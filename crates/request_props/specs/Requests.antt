@@ -15,7 +15,7 @@ abbrev pub IsDistInRange : Dist → Type 0
 IsDistInRange dist = IsListInRange (list_asked dist)
 
 -- the list and the order are among the 60 that a query can have; the empty order has 0
-pub record IsInRange (request : Request) : Type 0 where
+pub record IsRequestInRange (request : Request) : Type 0 where
   pub list : IsDistInRange request.dist
   pub numbered : request.order ≤ 60
 
@@ -40,5 +40,5 @@ order_field code = code % 64
 
 -- the number is that of the request
 pub record HasCode (request : Request) (code : ℕ) : Type 0 where
-  pub in_range : IsInRange request
+  pub in_range : IsRequestInRange request
   pub is_code : code_of request ≡ code

@@ -2,8 +2,8 @@
 #![tactic(auto)]
 
 ghost use Rattle.std.specs.Prelude.{◌<◌, IfOk};
-ghost use Rattle.query_core.specs.Keys.{IsGroup, Names};
-ghost use Rattle.query_core.specs.declared.words.KeyParts.{KeyParts as Group};
+ghost use Rattle.query_core.specs.Keys.{IsGroup, NamesGroup};
+ghost use Rattle.query_core.specs.declared.words.KeyParts.{KeyParts as AnyKeyParts};
 ghost use Rattle.request_props.specs.Groups.{AreKeys, key_of};
 ghost use Rattle.request_props.specs.Candidates.{AreCandidates, AreCandidatesOf};
 
@@ -40,7 +40,7 @@ fn candidates_at(
 ) -> Result<List<u64>, AllocError>
     requires keys { AreKeys query.now keys.now }
     requires few { number < KEYS }
-    ensures { IfOk result (λ words. (g : Group) → Names query.now (key_of number) g →
+    ensures { IfOk result (λ words. (g : AnyKeyParts) → NamesGroup query.now (key_of number) g →
         AreCandidatesOf query.now g words) }
 {
     if keys[number as usize] {

@@ -3,8 +3,8 @@
 
 ghost use Rattle.std.specs.Prelude.{◌≡◌, ◌↔◌};
 ghost use Rattle.query_core.specs.declared.query.Query.{Query};
-ghost use Rattle.request_props.specs.Dists.{class_of as class_by_given, class_asked as class_by_asked};
-ghost use Rattle.request_props.specs.Dists.{list_given as list_by_given, list_asked as list_by_asked};
+ghost use Rattle.request_props.specs.Dists.{class_of as the_class_of, class_asked as the_class_asked};
+ghost use Rattle.request_props.specs.Dists.{list_given as the_list_given, list_asked as the_list_asked};
 ghost use Rattle.request_props.specs.Satisfied.{ListMeets, Meets, Satisfies};
 ghost use Rattle.request_props.specs.declared.given.Given.{Given as AnyGiven};
 ghost use Rattle.request_props.specs.declared.given.GivenDist.{GivenDist as AnyGivenDist};
@@ -17,7 +17,7 @@ use cost_units::Class;
 
 /// The class of rows that are distributed so.
 pub fn class_of(dist: GivenDist) -> Class
-    ensures { result ≡ class_by_given dist }
+    ensures { result ≡ the_class_of dist }
 {
     match dist {
         GivenDist::One => Class::One,
@@ -29,7 +29,7 @@ pub fn class_of(dist: GivenDist) -> Class
 
 /// The class of rows that are asked for so.
 pub fn class_asked(dist: Dist) -> Class
-    ensures { result ≡ class_by_asked dist }
+    ensures { result ≡ the_class_asked dist }
 {
     match dist {
         Dist::One => Class::One,
@@ -41,7 +41,7 @@ pub fn class_asked(dist: Dist) -> Class
 
 /// The list by whose hash the rows lie, if there is one.
 pub fn list_given(dist: GivenDist) -> Option<u32>
-    ensures { result ≡ list_by_given dist }
+    ensures { result ≡ the_list_given dist }
 {
     match dist {
         GivenDist::One => None,
@@ -53,7 +53,7 @@ pub fn list_given(dist: GivenDist) -> Option<u32>
 
 /// The list by whose hash rows are asked for, if there is one.
 pub fn list_asked(dist: Dist) -> Option<u32>
-    ensures { result ≡ list_by_asked dist }
+    ensures { result ≡ the_list_asked dist }
 {
     match dist {
         Dist::One => None,
@@ -67,10 +67,10 @@ pub fn list_asked(dist: Dist) -> Option<u32>
 /// the list, if one is asked for. So what satisfies a request is of its class.
 pub fn classes_agree()
     ensures exact { (dist : AnyGivenDist) (asked : AnyDist) →
-        Meets dist asked ↔ ((class_by_given dist ≡ class_by_asked asked)
-        × ListMeets (list_by_given dist) (list_by_asked asked)) }
+        Meets dist asked ↔ ((the_class_of dist ≡ the_class_asked asked)
+        × ListMeets (the_list_given dist) (the_list_asked asked)) }
     ensures met { (dist : AnyGivenDist) (asked : AnyDist) → Meets dist asked →
-        class_by_given dist ≡ class_by_asked asked }
+        the_class_of dist ≡ the_class_asked asked }
     ensures satisfied { (q : Query) (given : AnyGiven) (wanted : AnyRequest) →
-        Satisfies q given wanted → class_by_given given.dist ≡ class_by_asked wanted.dist }
+        Satisfies q given wanted → the_class_of given.dist ≡ the_class_asked wanted.dist }
 {}

@@ -3,14 +3,14 @@
 
 ghost use Rattle.std.specs.Prelude.{◌≡◌, ◌<◌, ◌++◌, IfOk, OnOk};
 ghost use Rattle.std.specs.List.{All};
-ghost use Rattle.request_props.specs.Found.{one_each, ascending as ascending_of, elements_of};
-ghost use Rattle.request_props.specs.Found.{found_lists as lists_found};
-ghost use Rattle.request_props.specs.Found.{found_orders as orders_found};
-ghost use Rattle.request_props.specs.Found.{joined_columns as columns_joined};
+ghost use Rattle.request_props.specs.Found.{one_each, ascending as the_ascending, elements_of};
+ghost use Rattle.request_props.specs.Found.{found_lists as the_found_lists};
+ghost use Rattle.request_props.specs.Found.{found_orders as the_found_orders};
+ghost use Rattle.request_props.specs.Found.{joined_columns as the_joined_columns};
 ghost use Rattle.request_props.specs.Found.{is_across, sides_of};
-ghost use Rattle.request_props.specs.Found.{sides_across as across, sides_between as between};
-ghost use Rattle.request_props.specs.Found.{table_lists as lists_of_tables};
-ghost use Rattle.request_props.specs.Found.{unless_empty, grouped_order, wanted_order as order_wanted};
+ghost use Rattle.request_props.specs.Found.{sides_across as the_sides_across, sides_between as the_sides_between};
+ghost use Rattle.request_props.specs.Found.{table_lists as the_table_lists};
+ghost use Rattle.request_props.specs.Found.{unless_empty, grouped_order, wanted_order as the_wanted_order};
 
 use orca_base::List;
 use query_core::{CmpOp, Item, Operand, OrderKey, Pred, Query};
@@ -18,7 +18,7 @@ use std::alloc::{AllocError, Global};
 
 /// The lists by whose hash rows may be placed.
 pub fn found_lists(alloc: Global, query: &Query) -> Result<Vec<List<u32>>, AllocError>
-    ensures value { IfOk result (λ found. found.items ≡ lists_found query.now) }
+    ensures value { IfOk result (λ found. found.items ≡ the_found_lists query.now) }
 {
     let mut found = Vec::new(alloc);
     push_lists(alloc, &mut found, query)?;
@@ -26,7 +26,7 @@ pub fn found_lists(alloc: Global, query: &Query) -> Result<Vec<List<u32>>, Alloc
 }
 
 fn push_lists(alloc: Global, found: &mut Vec<List<u32>>, query: &Query) -> Result<(), AllocError>
-    ensures { OnOk result (found.new.items ≡ found.old.items ++ lists_found query.now) }
+    ensures { OnOk result (found.new.items ≡ found.old.items ++ the_found_lists query.now) }
 {
     push_table_lists(alloc, found, query)?;
     push_joined(alloc, found, query)?;
@@ -35,7 +35,7 @@ fn push_lists(alloc: Global, found: &mut Vec<List<u32>>, query: &Query) -> Resul
 
 /// The orders that may be asked for, but for the empty one, as lists of elements.
 pub fn found_orders(alloc: Global, query: &Query) -> Result<Vec<List<u32>>, AllocError>
-    ensures value { IfOk result (λ found. found.items ≡ orders_found query.now) }
+    ensures value { IfOk result (λ found. found.items ≡ the_found_orders query.now) }
 {
     let mut found = Vec::new(alloc);
     push_orders(alloc, &mut found, query)?;
@@ -43,7 +43,7 @@ pub fn found_orders(alloc: Global, query: &Query) -> Result<Vec<List<u32>>, Allo
 }
 
 fn push_orders(alloc: Global, found: &mut Vec<List<u32>>, query: &Query) -> Result<(), AllocError>
-    ensures { OnOk result (found.new.items ≡ found.old.items ++ orders_found query.now) }
+    ensures { OnOk result (found.new.items ≡ found.old.items ++ the_found_orders query.now) }
 {
     push_wanted(alloc, found, query)?;
     push_joined_orders(alloc, found, query)?;
@@ -52,13 +52,13 @@ fn push_orders(alloc: Global, found: &mut Vec<List<u32>>, query: &Query) -> Resu
 
 /// The elements of the ORDER BY list.
 pub fn wanted_order(alloc: Global, query: &Query) -> Result<Vec<u32>, AllocError>
-    ensures value { IfOk result (λ elements. elements.items ≡ order_wanted query.now) }
+    ensures value { IfOk result (λ elements. elements.items ≡ the_wanted_order query.now) }
 {
     elements(alloc, query.order.as_slice())
 }
 
 fn push_wanted(alloc: Global, found: &mut Vec<List<u32>>, query: &Query) -> Result<(), AllocError>
-    ensures { OnOk result (found.new.items ≡ found.old.items ++ unless_empty (order_wanted query.now)) }
+    ensures { OnOk result (found.new.items ≡ found.old.items ++ unless_empty (the_wanted_order query.now)) }
 {
     let order = wanted_order(alloc, query)?;
     push_unless_empty(alloc, found, order.as_slice())
@@ -72,7 +72,7 @@ fn push_grouped(alloc: Global, found: &mut Vec<List<u32>>, query: &Query) -> Res
 }
 
 fn push_joined(alloc: Global, found: &mut Vec<List<u32>>, query: &Query) -> Result<(), AllocError>
-    ensures { OnOk result (found.new.items ≡ found.old.items ++ one_each (columns_joined query.now)) }
+    ensures { OnOk result (found.new.items ≡ found.old.items ++ one_each (the_joined_columns query.now)) }
 {
     let columns = joined_columns(alloc, query)?;
     push_one_each(alloc, found, columns.as_slice())
@@ -84,7 +84,7 @@ fn push_joined_orders(
     query: &Query,
 ) -> Result<(), AllocError>
     ensures { OnOk result (found.new.items ≡
-        found.old.items ++ one_each (ascending_of (columns_joined query.now))) }
+        found.old.items ++ one_each (the_ascending (the_joined_columns query.now))) }
 {
     let columns = joined_columns(alloc, query)?;
     push_ascending(alloc, found, columns.as_slice())
@@ -97,7 +97,7 @@ fn push_ascending(
     columns: &[u32],
 ) -> Result<(), AllocError>
     requires { All (λ column. column < 60) columns.now }
-    ensures { OnOk result (found.new.items ≡ found.old.items ++ one_each (ascending_of columns.now)) }
+    ensures { OnOk result (found.new.items ≡ found.old.items ++ one_each (the_ascending columns.now)) }
 {
     let orders = ascending(alloc, columns)?;
     push_one_each(alloc, found, orders.as_slice())
@@ -108,7 +108,7 @@ fn push_table_lists(
     found: &mut Vec<List<u32>>,
     query: &Query,
 ) -> Result<(), AllocError>
-    ensures { OnOk result (found.new.items ≡ found.old.items ++ lists_of_tables query.now) }
+    ensures { OnOk result (found.new.items ≡ found.old.items ++ the_table_lists query.now) }
 {
     for table in query.tables.as_slice() {
         if let Some(list) = &table.hashed {
@@ -119,7 +119,7 @@ fn push_table_lists(
 }
 
 fn joined_columns(alloc: Global, query: &Query) -> Result<Vec<u32>, AllocError>
-    ensures value { IfOk result (λ columns. columns.items ≡ columns_joined query.now) }
+    ensures value { IfOk result (λ columns. columns.items ≡ the_joined_columns query.now) }
 {
     let mut columns = Vec::new(alloc);
     for pred in query.preds.as_slice() {
@@ -147,7 +147,7 @@ fn push_sides_across(
     left: u32,
     right: &Operand,
 ) -> Result<(), AllocError>
-    ensures { OnOk result (into.new.items ≡ into.old.items ++ across items.now left right.now) }
+    ensures { OnOk result (into.new.items ≡ into.old.items ++ the_sides_across items.now left right.now) }
 {
     match right {
         Operand::Item(right) => push_columns(into, items, left, *right),
@@ -162,7 +162,7 @@ fn push_columns(
     left: u32,
     right: u32,
 ) -> Result<(), AllocError>
-    ensures { OnOk result (into.new.items ≡ into.old.items ++ between items.now left right) }
+    ensures { OnOk result (into.new.items ≡ into.old.items ++ the_sides_between items.now left right) }
 {
     if are_apart(items, left, right) {
         into.push(left)?;
@@ -211,7 +211,7 @@ fn push_unless_empty(
 /// Columns, each ascending, as an order.
 pub fn ascending(alloc: Global, columns: &[u32]) -> Result<Vec<u32>, AllocError>
     requires { All (λ column. column < 60) columns.now }
-    ensures { IfOk result (λ elements. elements.items ≡ ascending_of columns.now) }
+    ensures { IfOk result (λ elements. elements.items ≡ the_ascending columns.now) }
 {
     let mut elements = Vec::new(alloc);
     for column in columns {

@@ -2,7 +2,7 @@
 #![tactic(auto)]
 
 ghost use Rattle.std.specs.Prelude.{◌≡◌, ◌<◌, ◌≤◌, ◌↔◌, IfOk, IsTrue};
-ghost use Rattle.query_core.specs.Keys.{IsKey, Names};
+ghost use Rattle.query_core.specs.Keys.{IsKey, NamesGroup};
 ghost use Rattle.query_core.specs.declared.words.KeyParts.{KeyParts};
 ghost use Rattle.cardinality.specs.Rows.{rows_of};
 ghost use Rattle.request_props.specs.Groups.{AreKeys, AreGroupRows, key_of};
@@ -48,7 +48,7 @@ pub fn group_rows(alloc: Global, query: &Query, keys: &[bool]) -> Result<Vec<u64
 fn rows_at(query: &Query, keys: &[bool], number: u32) -> u64
     requires keys { AreKeys query.now keys.now }
     requires few { number < KEYS }
-    ensures value { (g : KeyParts) → Names query.now (key_of number) g →
+    ensures value { (g : KeyParts) → NamesGroup query.now (key_of number) g →
         result ≡ rows_of query.now g }
     ensures most { result ≤ 1000000000000 }
 {

@@ -3,7 +3,7 @@
 
 ghost use Rattle.std.specs.Prelude.{ℕ, ◌≡◌, ◌↔◌, IfOk, IsTrue, map};
 ghost use Rattle.query_core.specs.Keys.{is_column_in};
-ghost use Rattle.request_props.specs.Lying.{items_of as items_of_elements, AreTablesOf, Covers, IsOver};
+ghost use Rattle.request_props.specs.Lying.{items_of as the_items_of, AreTablesOf, HasTables, IsOver};
 
 use orca_base::List;
 use query_core::{Query, sets};
@@ -31,7 +31,7 @@ pub fn tables_of_orders(
     orders: &[List<u32>],
 ) -> Result<Vec<Option<u32>>, AllocError>
     ensures { IfOk result (λ found.
-        AreTablesOf query.now (map items_of_elements orders.now) found.items) }
+        AreTablesOf query.now (map the_items_of orders.now) found.items) }
 {
     let items = items_of_orders(alloc, orders)?;
     tables_of_lists(alloc, query, items.as_slice())
@@ -39,7 +39,7 @@ pub fn tables_of_orders(
 
 // The items of each order.
 fn items_of_orders(alloc: Global, orders: &[List<u32>]) -> Result<Vec<List<u32>>, AllocError>
-    ensures { IfOk result (λ lists. lists.items ≡ map items_of_elements orders.now) }
+    ensures { IfOk result (λ lists. lists.items ≡ map the_items_of orders.now) }
 {
     let mut lists = Vec::new(alloc);
     for order in orders {
@@ -50,7 +50,7 @@ fn items_of_orders(alloc: Global, orders: &[List<u32>]) -> Result<Vec<List<u32>>
 
 /// Whether the set has each of the tables, where these are there.
 pub fn covers(set: u32, tables: Option<u32>) -> bool
-    ensures { IsTrue result ↔ Covers set tables }
+    ensures { IsTrue result ↔ HasTables set tables }
 {
     match tables {
         Some(tables) => sets::least(sets::difference(tables, set)).is_none(),
@@ -59,7 +59,7 @@ pub fn covers(set: u32, tables: Option<u32>) -> bool
 }
 
 fn items_of(alloc: Global, order: &[u32]) -> Result<Vec<u32>, AllocError>
-    ensures { IfOk result (λ items. items.items ≡ items_of_elements order.now) }
+    ensures { IfOk result (λ items. items.items ≡ the_items_of order.now) }
 {
     order.iter().map(|element| *element / 2).collect(alloc)
 }
@@ -75,8 +75,8 @@ fn tables_of(query: &Query, list: &[u32]) -> Option<u32>
 
 // These tables and the item's, where it is a column.
 fn with_item(query: &Query, tables: Option<u32>, item: u32) -> Option<u32>
-    ensures { (set : ℕ) → Covers set result ↔
-        (IsTrue (is_column_in query.now.items set item) × Covers set tables) }
+    ensures { (set : ℕ) → HasTables set result ↔
+        (IsTrue (is_column_in query.now.items set item) × HasTables set tables) }
 {
     match (tables, query.items.as_slice().get(item as usize)) {
         (Some(tables), Some(column)) => Some(sets::with(tables, column.table)),

@@ -4,11 +4,11 @@
 ghost use Rattle.std.specs.Prelude.{◌≡◌, ◌≤◌, ◌<◌, ◌&&◌, IfOk, IsTrue, bytes_eq, length, map, nat_lt};
 ghost use Rattle.std.specs.List.{position_or_len};
 ghost use Rattle.query_core.specs.Conditions.{is_operand};
-ghost use Rattle.request_props.specs.Numbered.{lists_of, orders_of, list_number as number_of_list};
-ghost use Rattle.request_props.specs.Numbered.{order_number as number_of_order};
-ghost use Rattle.request_props.specs.Numbered.{side_of, equality_of as equality_by};
-ghost use Rattle.request_props.specs.Numbered.{dist_by as dist_of_hashed, are_grouped as all_grouped};
-ghost use Rattle.request_props.specs.Numbered.{group_order as order_of_groups};
+ghost use Rattle.request_props.specs.Numbered.{lists_of, orders_of, list_number as the_list_number};
+ghost use Rattle.request_props.specs.Numbered.{order_number as the_order_number};
+ghost use Rattle.request_props.specs.Numbered.{side_of, equality_of as the_equality_of};
+ghost use Rattle.request_props.specs.Numbered.{dist_by as the_dist_by, are_grouped as the_are_grouped};
+ghost use Rattle.request_props.specs.Numbered.{group_order as the_group_order};
 
 use crate::found::ascending;
 use crate::given::GivenDist;
@@ -28,7 +28,7 @@ pub fn equalities(
     requires few_lists { length lists.now ≤ 60 }
     requires orders { orders.now ≡ orders_of query.now }
     requires few_orders { length orders.now ≤ 60 }
-    ensures { IfOk result (λ found. found.items ≡ map (equality_by query.now) query.now.preds) }
+    ensures { IfOk result (λ found. found.items ≡ map (the_equality_of query.now) query.now.preds) }
 {
     let mut found = Vec::new(alloc);
     for pred in query.preds.as_slice() {
@@ -46,7 +46,7 @@ pub fn placings(
     requires lists { lists.now ≡ lists_of query.now }
     requires few_lists { length lists.now ≤ 60 }
     ensures { IfOk result (λ found.
-        found.items ≡ map (λ table. dist_of_hashed query.now table.hashed) query.now.tables) }
+        found.items ≡ map (λ table. the_dist_by query.now table.hashed) query.now.tables) }
 {
     let mut found = Vec::new(alloc);
     for table in query.tables.as_slice() {
@@ -57,7 +57,7 @@ pub fn placings(
 
 /// Of each hashed list whether all of it is in GROUP BY.
 pub fn grouped(alloc: Global, query: &Query, lists: &[List<u32>]) -> Result<Vec<bool>, AllocError>
-    ensures { IfOk result (λ found. found.items ≡ map (all_grouped query.now) lists.now) }
+    ensures { IfOk result (λ found. found.items ≡ map (the_are_grouped query.now) lists.now) }
 {
     let mut found = Vec::new(alloc);
     for list in lists {
@@ -70,7 +70,7 @@ pub fn grouped(alloc: Global, query: &Query, lists: &[List<u32>]) -> Result<Vec<
 pub fn group_order(alloc: Global, query: &Query, orders: &[List<u32>]) -> Result<u32, AllocError>
     requires orders { orders.now ≡ orders_of query.now }
     requires few_orders { length orders.now ≤ 60 }
-    ensures { IfOk result (λ number. number ≡ order_of_groups query.now) }
+    ensures { IfOk result (λ number. number ≡ the_group_order query.now) }
 {
     let order = ascending(alloc, query.group_by.as_slice())?;
     Ok(order_number(query, orders, order.as_slice()))
@@ -88,7 +88,7 @@ fn equality(
     requires few_orders { length orders.now ≤ 60 }
     requires over { IsTrue (nat_lt pred.now.left (length query.now.items) &&
         is_operand query.now.items pred.now.right) }
-    ensures { result ≡ equality_by query.now pred.now }
+    ensures { result ≡ the_equality_of query.now pred.now }
 {
     match (pred.op, &pred.right) {
         (CmpOp::Eq, Operand::Item(right)) => Some(Equality {
@@ -117,7 +117,7 @@ fn side(query: &Query, lists: &[List<u32>], orders: &[List<u32>], column: u32) -
 fn placing(query: &Query, lists: &[List<u32>], hashed: &Option<List<u32>>) -> GivenDist
     requires lists { lists.now ≡ lists_of query.now }
     requires few_lists { length lists.now ≤ 60 }
-    ensures { result ≡ dist_of_hashed query.now hashed.now }
+    ensures { result ≡ the_dist_by query.now hashed.now }
 {
     match hashed {
         Some(list) => GivenDist::Hashed(list_number(query, lists, list.as_slice())),
@@ -126,7 +126,7 @@ fn placing(query: &Query, lists: &[List<u32>], hashed: &Option<List<u32>>) -> Gi
 }
 
 fn are_grouped(query: &Query, columns: &[u32]) -> bool
-    ensures { result ≡ all_grouped query.now columns.now }
+    ensures { result ≡ the_are_grouped query.now columns.now }
 {
     // The items of partial groups are the GROUP BY columns.
     columns
@@ -137,7 +137,7 @@ fn are_grouped(query: &Query, columns: &[u32]) -> bool
 fn list_number(query: &Query, lists: &[List<u32>], list: &[u32]) -> u32
     requires lists { lists.now ≡ lists_of query.now }
     requires few_lists { length lists.now ≤ 60 }
-    ensures { result ≡ number_of_list query.now list.now }
+    ensures { result ≡ the_list_number query.now list.now }
 {
     place_of(lists, list) as u32
 }
@@ -146,7 +146,7 @@ fn list_number(query: &Query, lists: &[List<u32>], list: &[u32]) -> u32
 pub fn order_number(query: &Query, orders: &[List<u32>], order: &[u32]) -> u32
     requires orders { orders.now ≡ orders_of query.now }
     requires few_orders { length orders.now ≤ 60 }
-    ensures { result ≡ number_of_order query.now order.now }
+    ensures { result ≡ the_order_number query.now order.now }
 {
     match order {
         [] => 0,

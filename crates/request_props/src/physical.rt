@@ -3,8 +3,8 @@
 
 ghost use Rattle.std.specs.Prelude.{◌<◌, IfOk, OnOk};
 ghost use Rattle.query_core.specs.Expressions.{IsWord};
-ghost use Rattle.query_core.specs.Keys.{IsGroup, Names};
-ghost use Rattle.query_core.specs.declared.words.KeyParts.{KeyParts as Group};
+ghost use Rattle.query_core.specs.Keys.{IsGroup, NamesGroup};
+ghost use Rattle.query_core.specs.declared.words.KeyParts.{KeyParts as AnyKeyParts};
 ghost use Rattle.request_props.specs.Groups.{AreKeys, key_of};
 ghost use Rattle.request_props.specs.Candidates.{AreCandidates, AreCandidatesOf, ArePhysical, ArePhysicalOf};
 ghost use Rattle.request_props.specs.Filling.{AddsPhysical};
@@ -52,7 +52,7 @@ fn physical_at(
     requires keys { AreKeys query.now keys.now }
     requires candidates { AreCandidates query.now candidates.now }
     requires few { number < KEYS }
-    ensures { IfOk result (λ found. (g : Group) → Names query.now (key_of number) g →
+    ensures { IfOk result (λ found. (g : AnyKeyParts) → NamesGroup query.now (key_of number) g →
         ArePhysicalOf query.now g found) }
 {
     if keys[number as usize] {

@@ -6,7 +6,7 @@ ghost use Rattle.query_core.specs.declared.query.Query.{Query};
 ghost use Rattle.request_props.specs.Found.{elements_of, element_of};
 ghost use Rattle.request_props.specs.Numbered.{IsProps, IsRefusedFor, IsRoot};
 ghost use Rattle.request_props.specs.Numbered.{lists_of, orders_of, order_among};
-ghost use Rattle.request_props.specs.Numbered.{root_dist as dist_of_root};
+ghost use Rattle.request_props.specs.Numbered.{root_dist as the_root_dist};
 
 mod equalities;
 mod fitting;
@@ -117,7 +117,7 @@ fn root_request(alloc: Global, query: &Query, orders: &[List<u32>]) -> Result<Re
 }
 
 fn root_dist(root: RootDist) -> Dist
-    ensures { result ≡ dist_of_root root }
+    ensures { result ≡ the_root_dist root }
 {
     match root {
         RootDist::One => Dist::One,

@@ -1,9 +1,9 @@
 ghost use Rattle.std.specs.Prelude.{◌≡◌, ◌↔◌, ◌<◌, Some};
 ghost use Rattle.request_props.specs.declared.request.Request.{Request};
 ghost use Rattle.request_props.specs.declared.request.Dist.{Dist as AnyDist};
-ghost use Rattle.request_props.specs.Requests.{IsInRange, IsDistInRange, dist_code as dist_number};
+ghost use Rattle.request_props.specs.Requests.{IsRequestInRange, IsDistInRange, dist_code as the_dist_code};
 ghost use Rattle.request_props.specs.Requests.{code_of, HasCode};
-ghost use Rattle.request_props.specs.Requests.{dist_field as dist_in, order_field as order_in};
+ghost use Rattle.request_props.specs.Requests.{dist_field as the_dist_field, order_field as the_order_field};
 
 /// The distribution that is asked for.
 #[derive(Clone, Copy, Debug, PartialEq, Eq)]
@@ -27,7 +27,7 @@ pub struct Request {
 
 /// The request's number.
 pub fn code(request: Request) -> u32
-    requires { IsInRange request }
+    requires { IsRequestInRange request }
     ensures { result ≡ code_of request }
 {
     dist_code(request.dist) * 64 + request.order
@@ -49,14 +49,14 @@ pub fn request_of(code: u32) -> Option<Request>
 
 /// The number of the distribution in that of a request.
 pub fn dist_field(code: u32) -> u32
-    ensures { result ≡ dist_in code }
+    ensures { result ≡ the_dist_field code }
 {
     code / 64
 }
 
 /// The number of the order in that of a request.
 pub fn order_field(code: u32) -> u32
-    ensures { result ≡ order_in code }
+    ensures { result ≡ the_order_field code }
 {
     code % 64
 }
@@ -64,7 +64,7 @@ pub fn order_field(code: u32) -> u32
 /// The distribution's number.
 pub fn dist_code(dist: Dist) -> u32
     requires { IsDistInRange dist }
-    ensures value { result ≡ dist_number dist }
+    ensures value { result ≡ the_dist_code dist }
     ensures few { result < 63 }
 {
     match dist {
@@ -77,12 +77,12 @@ pub fn dist_code(dist: Dist) -> u32
 
 /// A distribution's number is one of 63, and no other distribution has it.
 pub fn codes_are_one()
-    ensures few { (dist : AnyDist) → IsDistInRange dist → dist_number dist < 63 }
-    ensures one { (dist other : AnyDist) → dist_number dist ≡ dist_number other → dist ≡ other }
+    ensures few { (dist : AnyDist) → IsDistInRange dist → the_dist_code dist < 63 }
+    ensures one { (dist other : AnyDist) → the_dist_code dist ≡ the_dist_code other → dist ≡ other }
 {}
 
 fn dist_of(code: u32) -> Option<Dist>
-    ensures exact { (d : AnyDist) → (IsDistInRange d × (dist_number d ≡ code)) ↔ (result ≡ Some d) }
+    ensures exact { (d : AnyDist) → (IsDistInRange d × (the_dist_code d ≡ code)) ↔ (result ≡ Some d) }
 {
     match code {
         0 => Some(Dist::One),

@@ -5,7 +5,7 @@ ghost use Rattle.std.specs.Prelude.{◌≡◌, ◌↔◌, IsTrue};
 ghost use Rattle.request_props.specs.Found.{ascending, elements_of};
 ghost use Rattle.request_props.specs.Numbered.{IsProps, IsNumbered, order_of};
 ghost use Rattle.request_props.specs.Satisfied.{ListMeets, Meets, BeginsWith, Satisfies, IsOrderKnown};
-ghost use Rattle.request_props.specs.Satisfied.{given_order, index_columns as columns_of_index};
+ghost use Rattle.request_props.specs.Satisfied.{given_order, index_columns as the_index_columns};
 
 use crate::dists::{class_asked, class_of, list_asked, list_given};
 use crate::given::{Given, GivenDist, GivenOrder};
@@ -57,7 +57,7 @@ fn order_meets(query: &Query, props: &Props, given: GivenOrder, wanted: u32) -> 
 }
 
 fn index_columns(query: &Query, table: u32, index: u32) -> &[u32]
-    ensures { result.now ≡ columns_of_index query.now table index }
+    ensures { result.now ≡ the_index_columns query.now table index }
 {
     match query.tables.as_slice().get(table as usize) {
         Some(table) => match table.indexes.as_slice().get(index as usize) {

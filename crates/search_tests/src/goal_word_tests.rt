@@ -1,6 +1,6 @@
 //! The words of goals at worked examples.
 
-ghost use Rattle.goal_space.specs.Words.{IsInRange};
+ghost use Rattle.goal_space.specs.Words.{IsGoalInRange};
 
 use goal_space::GoalKind;
 use query_core::{ExprParts, Goal, KeyParts, Logical, Physical, PhysicalExpr};
@@ -9,7 +9,7 @@ use std::process::Abort;
 use xform_rules::Rule;
 
 fn has_word(rt: &impl Abort, goal: GoalKind, word: u64)
-    requires { IsInRange goal }
+    requires { IsGoalInRange goal }
 {
     let packed = Goal(word);
     assert!(rt;

@@ -1,7 +1,7 @@
 //! Nodes of plans that are made by hand, and the node at the root of a plan.
 
 ghost use Rattle.std.specs.Prelude.{◌<◌};
-ghost use Rattle.query_core.specs.Keys.{IsInRange};
+ghost use Rattle.query_core.specs.Keys.{IsGroupInRange};
 ghost use Rattle.plan_tree.specs.Nodes.{NativeInRange};
 
 use plan_space::NodeKind;
@@ -16,14 +16,14 @@ pub fn native(group: KeyParts, operator: Physical, mode: u32) -> Node
 }
 
 pub fn hash_agg(child: KeyParts, mode: u32) -> Node
-    requires child { IsInRange child }
+    requires child { IsGroupInRange child }
     requires mode { mode < 256 }
 {
     native(KeyParts::Agg, Physical::HashAgg(child), mode)
 }
 
 pub fn stream_agg(child: KeyParts, mode: u32) -> Node
-    requires child { IsInRange child }
+    requires child { IsGroupInRange child }
     requires mode { mode < 256 }
 {
     native(KeyParts::Agg, Physical::StreamAgg(child), mode)

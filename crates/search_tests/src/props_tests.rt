@@ -2,7 +2,7 @@
 
 ghost use Rattle.std.specs.Prelude.{IfOk, IsTrue};
 ghost use Rattle.request_props.specs.Numbered.{IsProps};
-ghost use Rattle.request_props.specs.Requests.{IsInRange};
+ghost use Rattle.request_props.specs.Requests.{IsRequestInRange};
 ghost use Rattle.request_props.specs.Satisfied.{IsOrderKnown};
 
 use crate::made_tests::lent;
@@ -347,7 +347,7 @@ fn requests_are_met_as_by_hand(rt: HostRuntime) -> Result<(), Fail> {
 }
 
 fn has_code(request: Request, number: u32) -> bool
-    requires { IsInRange request }
+    requires { IsRequestInRange request }
 {
     code(request) == number && request_of(number) == Some(request)
 }

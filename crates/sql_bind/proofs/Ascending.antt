@@ -11,7 +11,7 @@ use Rattle.sql_bind.specs.declared.columns.Column.{Column}
 use Rattle.sql_bind.specs.Scope.{FromTable}
 use Rattle.sql_bind.specs.Columns.{column, is_among, is_same}
 use Rattle.sql_bind.specs.Used.{UsedColumn, used_from, used_in}
-use Rattle.sql_bind.specs.Numbers.{number_of}
+use Rattle.sql_bind.specs.Numbers.{column_number}
 use Rattle.sql_bind.specs.UsedColumns.{HasNumber, ascend, comes_before}
 use Rattle.sql_bind.proofs.Found.{is_itself}
 use Rattle.sql_bind.proofs.ItemsKept.{all_above, constantly, each_in}
@@ -129,7 +129,8 @@ at_number test (u ∷ us) zero c all here =
 at_number test (u ∷ us) (suc n) c all here = at_number test us n c (and_parts (test u) (list_all test us) all).1 here
 
 -- it has that number alone
-pub only_number : (us : List UsedColumn) (n : ℕ) (c : Column) → ascend us ≡ true → HasNumber us c n → n ≡ number_of us c
+pub only_number : (us : List UsedColumn) (n : ℕ) (c : Column) → ascend us ≡ true → HasNumber us c n
+    → n ≡ column_number us c
 only_number [] n c ascending here = absurd cc
 only_number (u ∷ us) zero c ascending here = let same : u.which ≡ c = cc in rw (same, is_itself c) refl
 only_number (u ∷ us) (suc n) c ascending here =

@@ -14,7 +14,7 @@ use Rattle.sql_bind.specs.declared.columns.Column.{Column}
 use Rattle.sql_bind.specs.Scope.{FromTable}
 use Rattle.sql_bind.specs.Columns.{column, is_among, is_same}
 use Rattle.sql_bind.specs.Used.{UsedColumn, used_from, used_in}
-use Rattle.sql_bind.specs.Numbers.{number_of}
+use Rattle.sql_bind.specs.Numbers.{column_number}
 use Rattle.sql_bind.specs.Query.{item_of, items_of}
 use Rattle.sql_bind.proofs.Resolving.{has_column}
 
@@ -23,7 +23,7 @@ column_at used number = option_map (λ u. u.which) (slice_get used number)
 
 -- the column stands at its number
 pub record IsAt (used : List UsedColumn) (c : Column) : Type 0 where
-  pub here : column_at used (number_of used c) ≡ Some c
+  pub here : column_at used (column_number used c) ≡ Some c
 
 -- behind another column
 pub behind : (u : UsedColumn) (us : List UsedColumn) (c : Column) → is_same u.which c ≡ false → IsAt us c
@@ -31,14 +31,14 @@ pub behind : (u : UsedColumn) (us : List UsedColumn) (c : Column) → is_same u.
 behind u us c other at = record { here = rw other at.here }
 
 left_case : (u : UsedColumn) (us vs : List UsedColumn) (c : Column) (b : Bool)
-    → column_at (u ∷ us) (cond b 0 (suc (number_of us c))) ≡ Some c
-    → (column_at us (number_of us c) ≡ Some c → column_at (us ++ vs) (number_of (us ++ vs) c) ≡ Some c)
-    → column_at (u ∷ (us ++ vs)) (cond b 0 (suc (number_of (us ++ vs) c))) ≡ Some c
+    → column_at (u ∷ us) (cond b 0 (suc (column_number us c))) ≡ Some c
+    → (column_at us (column_number us c) ≡ Some c → column_at (us ++ vs) (column_number (us ++ vs) c) ≡ Some c)
+    → column_at (u ∷ (us ++ vs)) (cond b 0 (suc (column_number (us ++ vs) c))) ≡ Some c
 left_case u us vs c true e rest = e
 left_case u us vs c false e rest = rest e
 
-at_left : (us vs : List UsedColumn) (c : Column) → column_at us (number_of us c) ≡ Some c
-    → column_at (us ++ vs) (number_of (us ++ vs) c) ≡ Some c
+at_left : (us vs : List UsedColumn) (c : Column) → column_at us (column_number us c) ≡ Some c
+    → column_at (us ++ vs) (column_number (us ++ vs) c) ≡ Some c
 at_left [] vs c e = absurd cc
 at_left (u ∷ us) vs c e = left_case u us vs c (is_same u.which c) e (at_left us vs c)
 
@@ -160,21 +160,22 @@ module _ (used : List UsedColumn) where
   table_case c n (Some u) e = let same : u.which ≡ c = cc in rw same (eq-eqb c.table c.table refl)
 
   -- it is an item of the column's table
-  pub of_table : (c : Column) → IsAt used c → is_column_of (items_of used) c.table (number_of used c) ≡ true
-  of_table c at = rw (slice_get-map item_of used (number_of used c))
-      (table_case c (number_of used c) (slice_get used (number_of used c)) at.here)
+  pub of_table : (c : Column) → IsAt used c → is_column_of (items_of used) c.table (column_number used c) ≡ true
+  of_table c at = rw (slice_get-map item_of used (column_number used c))
+      (table_case c (column_number used c) (slice_get used (column_number used c)) at.here)
 
   within_case : (c : Column) (n : ℕ) (found : Option UsedColumn) → slice_get used n ≡ found
       → option_map (λ u. u.which) found ≡ Some c → n < length used
   within_case c n None is e = absurd cc
   within_case c n (Some u) is e = slice_get_within used n u is
 
-  pub within : (c : Column) → IsAt used c → nat_lt (number_of used c) (length (items_of used)) ≡ true
+  pub within : (c : Column) → IsAt used c → nat_lt (column_number used c) (length (items_of used)) ≡ true
   within c at = rw (length-map used item_of)
-      (below (number_of used c) (length used) (within_case c (number_of used c) (slice_get used (number_of used c)) refl
+      (below (column_number used c) (length used)
+      (within_case c (column_number used c) (slice_get used (column_number used c)) refl
       at.here))
 
   -- different columns have different numbers
-  pub one_number : (c d : Column) → IsAt used c → IsAt used d → number_of used c ≡ number_of used d → c ≡ d
+  pub one_number : (c d : Column) → IsAt used c → IsAt used d → column_number used c ≡ column_number used d → c ≡ d
   one_number c d first second same = let joined : Some c ≡ Some d = sym first.here
       ∙ (ap (column_at used) same ∙ second.here) in cc

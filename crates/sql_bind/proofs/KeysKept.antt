@@ -21,7 +21,7 @@ use Rattle.sql_bind.specs.Columns.{column_of}
 use Rattle.sql_bind.specs.SelectList.{has_name, is_called}
 use Rattle.sql_bind.specs.SortKeys.{first_called, key_in, keys_of, meant_output, named_target, target_in, target_of}
 use Rattle.sql_bind.specs.Used.{UsedColumn, in_what, named_by_chosen}
-use Rattle.sql_bind.specs.Numbers.{number_of}
+use Rattle.sql_bind.specs.Numbers.{column_number}
 use Rattle.sql_bind.specs.Query.{agg_as, aggs_of}
 use Rattle.orca_base.proofs.Checked.{all_pass, each_keeps, ok_is, seen_ok}
 use Rattle.sql_bind.proofs.Resolving.{column_there, has_column}
@@ -159,7 +159,7 @@ module _ (used : List UsedColumn) where
       → IsNamedAt (option_to_list (agg_as used c.name what) ++ aggs) base n
   named_case base n c aggs rest (whats.Column at x) is found later = later (only_right (is_some c.name) rest found)
   named_case base n c aggs rest (whats.Aggregate number func arg) is found later =
-      head_case base n number (record { func = func; arg = option_map (number_of used) arg; name = c.name }) aggs
+      head_case base n number (record { func = func; arg = option_map (column_number used) arg; name = c.name }) aggs
       (number == n) rest is refl found later
 
   named_at : (base : ℕ) (chosen : List Chosen) (n : ℕ) → numbered_from base chosen ≡ true

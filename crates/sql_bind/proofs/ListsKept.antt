@@ -15,7 +15,7 @@ use Rattle.sql_bind.specs.declared.columns.Column.{Column}
 use Rattle.sql_bind.specs.Scope.{FromTable}
 use Rattle.sql_bind.specs.Columns.{column, is_among}
 use Rattle.sql_bind.specs.Used.{UsedColumn, indexed_by, listed_from, placed_by, places_of, used_from}
-use Rattle.sql_bind.specs.Numbers.{number_of, numbers_of}
+use Rattle.sql_bind.specs.Numbers.{column_number, numbers_of}
 use Rattle.sql_bind.specs.Query.{hashed_of, indexes_of, item_of, items_of, table_of, tables_from}
 use Rattle.sql_bind.proofs.Resolving.{has_column, here, later}
 use Rattle.sql_bind.proofs.Found.{IsAt, found_from, of_table, one_number}
@@ -37,7 +37,7 @@ module _ (used : List UsedColumn) (table : ℕ) where
       → list_all (is_column_of (items_of used) table) (numbers_of used table places) ≡ true
   in_table [] at = refl
   in_table (p ∷ ps) at =
-      and_from (is_column_of (items_of used) table (number_of used (column table p)))
+      and_from (is_column_of (items_of used) table (column_number used (column table p)))
       (list_all (is_column_of (items_of used) table) (numbers_of used table ps))
       (of_table used (column table p) (at p (among_first (column table p) (places_of table ps))))
       (in_table ps (λ q among. at q (among_later (column table q) (column table p) (places_of table ps) among)))
@@ -45,21 +45,21 @@ module _ (used : List UsedColumn) (table : ℕ) where
   place_is : (p q : ℕ) → column table p ≡ column table q → p ≡ q
   place_is p q e = ap (λ (c : Column). c.place) e
 
-  new_case : (p q : ℕ) (b : Bool) → (number_of used (column table p) == number_of used (column table q)) ≡ b
+  new_case : (p q : ℕ) (b : Bool) → (column_number used (column table p) == column_number used (column table q)) ≡ b
       → IsAt used (column table p) → IsAt used (column table q) → (q == p) ≡ false → b ≡ false
   new_case p q true is first second apart =
       let same : p ≡ q = place_is p q (one_number used (column table p) (column table q) first second
-      (eqb-true (number_of used (column table p)) (number_of used (column table q)) is)) in
+      (eqb-true (column_number used (column table p)) (column_number used (column table q)) is)) in
       absurd (let e : (q == p) ≡ true = rw same (itself_same q) in cc)
   new_case p q false is first second apart = refl
 
   new_number : (p : ℕ) (qs : List ℕ) → IsAt used (column table p) → ArePlaced qs → list_any (λ q. q == p) qs ≡ false
-      → list_any (nat_eq (number_of used (column table p))) (numbers_of used table qs) ≡ false
+      → list_any (nat_eq (column_number used (column table p))) (numbers_of used table qs) ≡ false
   new_number p [] first at fresh = refl
   new_number p (q ∷ qs) first at fresh =
       let parts = or_parts (q == p) (list_any (λ x. x == p) qs) fresh in
-      let other : nat_eq (number_of used (column table p)) (number_of used (column table q)) ≡ false =
-      new_case p q (number_of used (column table p) == number_of used (column table q)) refl first
+      let other : nat_eq (column_number used (column table p)) (column_number used (column table q)) ≡ false =
+      new_case p q (column_number used (column table p) == column_number used (column table q)) refl first
       (at q (among_first (column table q) (places_of table qs))) parts.0 in
       rw other (new_number p qs first (λ r among.
       at r (among_later (column table r) (column table q) (places_of table qs) among)) parts.1)
@@ -71,7 +71,7 @@ module _ (used : List UsedColumn) (table : ℕ) where
       let parts = and_parts (not (list_any (λ q. q == p) ps)) (all_differ (λ x y. y == x) ps) differ in
       let rest = λ (q : ℕ) (among : is_among (places_of table ps) (column table q) ≡ true).
       at q (among_later (column table q) (column table p) (places_of table ps) among) in
-      let fresh : list_any (nat_eq (number_of used (column table p))) (numbers_of used table ps) ≡ false =
+      let fresh : list_any (nat_eq (column_number used (column table p))) (numbers_of used table ps) ≡ false =
       new_number p ps (at p (among_first (column table p) (places_of table ps))) rest (not-true _ parts.0) in
       rw fresh (numbers_apart ps rest parts.1)
 
@@ -80,7 +80,7 @@ module _ (used : List UsedColumn) (table : ℕ) where
       → is_column_list (items_of used) table (numbers_of used table places) ≡ true
   list_kept columns places kept at =
       let counted : (nat_le 1 (length (numbers_of used table places)) && nat_le (length (numbers_of used table places))
-      8) ≡ true = rw (length-map places (λ p. number_of used (column table p))) kept.counted in
+      8) ≡ true = rw (length-map places (λ p. column_number used (column table p))) kept.counted in
       and_from (nat_le 1 (length (numbers_of used table places)) && nat_le (length (numbers_of used table places))
       8 && list_all (is_column_of (items_of used) table) (numbers_of used table places))
       (numbers_differ (numbers_of used table places))

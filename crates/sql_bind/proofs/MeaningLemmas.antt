@@ -11,7 +11,7 @@ use Rattle.sql_reader.specs.declared.syntax.ColRef.{ColRef}
 use Rattle.sql_bind.specs.declared.columns.Column.{Column}
 use Rattle.sql_bind.specs.Scope.{FromTable}
 use Rattle.sql_bind.specs.Columns.{candidates, column, column_of, is_among, is_same, only_one, place_in}
-use Rattle.sql_bind.specs.Meaning.{IsMeaning, Names}
+use Rattle.sql_bind.specs.Meaning.{IsMeaning, NamesColumn}
 use Rattle.sql_bind.proofs.Found.{same_is}
 use Rattle.sql_bind.proofs.Among.{among_first, among_later, among_right}
 
@@ -134,13 +134,13 @@ module _ (reference : ColRef) where
       (λ later. two_apart (base + 1) ts c d ds later)
 
 module _ (scope : List FromTable) (reference : ColRef) where
-  as_named : (c : Column) → is_among (candidates reference 0 scope) c ≡ true → Names scope reference c
+  as_named : (c : Column) → is_among (candidates reference 0 scope) c ≡ true → NamesColumn scope reference c
   as_named c among =
       let names = sound reference 0 scope c among in
       let same : c.table - 0 ≡ c.table = omega arith in
       record { table = names.table; here = rw same at names.here; named = names.named }
 
-  as_candidate : (c : Column) → Names scope reference c → is_among (candidates reference 0 scope) c ≡ true
+  as_candidate : (c : Column) → NamesColumn scope reference c → is_among (candidates reference 0 scope) c ≡ true
   as_candidate c names =
       let same : c.table - 0 ≡ c.table = omega arith in
       complete reference 0 scope c.table c.place names.table (omega arith) (rw same names.here) names.named

@@ -10,7 +10,7 @@ use Rattle.std.proofs.Math.Bool.{or-false}
 use Rattle.sql_bind.specs.declared.columns.Column.{Column}
 use Rattle.sql_bind.specs.Columns.{is_among, is_same}
 use Rattle.sql_bind.specs.Used.{UsedColumn}
-use Rattle.sql_bind.specs.Numbers.{number_of}
+use Rattle.sql_bind.specs.Numbers.{column_number}
 use Rattle.sql_bind.proofs.Found.{same_is}
 use Rattle.sql_bind.proofs.NameLemmas.{position-map}
 
@@ -52,11 +52,11 @@ module _ (c : Column) where
   first_case false n = omega arith
 
   first_step : (u : UsedColumn) (us : List UsedColumn)
-      → number_of (u ∷ us) c ≡ cond (is_same c u.which) 0 (1 + number_of us c)
-  first_step u us = rw (same_turned u.which c) (first_case (is_same c u.which) (number_of us c))
+      → column_number (u ∷ us) c ≡ cond (is_same c u.which) 0 (1 + column_number us c)
+  first_step u us = rw (same_turned u.which c) (first_case (is_same c u.which) (column_number us c))
 
-  number_is : (us : List UsedColumn) → number_of us c ≡ position_or_len (λ u. is_same c u.which) us
-  number_is us = is_position_or_len (λ us. number_of us c) (λ u. is_same c u.which) refl first_step us
+  number_is : (us : List UsedColumn) → column_number us c ≡ position_or_len (λ u. is_same c u.which) us
+  number_is us = is_position_or_len (λ us. column_number us c) (λ u. is_same c u.which) refl first_step us
 
   some_case : (b : Bool) (p n : ℕ) → cond b (Some p) None ≡ Some n → n ≡ p
   some_case true p n e = cc
@@ -68,7 +68,7 @@ module _ (c : Column) where
 
   -- a column that is used has its place as number
   pub number_found : (us : List UsedColumn) (n : ℕ) → position (is_same c) (map (λ u. u.which) us) ≡ Some n
-      → n ≡ number_of us c
+      → n ≡ column_number us c
   number_found us n found =
       let test = λ (u : UsedColumn). is_same c u.which in
       some_case (nat_lt (position_or_len test us) (length us)) (position_or_len test us) n
@@ -76,7 +76,7 @@ module _ (c : Column) where
 
   -- all used columns come before one that isn't used
   pub number_missing : (us : List UsedColumn) → position (is_same c) (map (λ u. u.which) us) ≡ None
-      → length us ≡ number_of us c
+      → length us ≡ column_number us c
   number_missing us none =
       let test = λ (u : UsedColumn). is_same c u.which in
       let high : nat_lt (position_or_len test us) (length us) ≡ false =

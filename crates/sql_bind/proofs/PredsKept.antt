@@ -21,7 +21,7 @@ use Rattle.sql_bind.specs.declared.select_list.Chosen.{Chosen}
 use Rattle.sql_bind.specs.Columns.{is_among}
 use Rattle.sql_bind.specs.SelectList.{aggregates, is_aggregate, output_names}
 use Rattle.sql_bind.specs.Used.{UsedColumn, in_compared, in_side, in_what, named_by_chosen, named_by_compared}
-use Rattle.sql_bind.specs.Numbers.{number_of}
+use Rattle.sql_bind.specs.Numbers.{column_number}
 use Rattle.sql_bind.specs.Query.{agg_as, aggs_of, items_of, operand_of, preds_of}
 use Rattle.sql_reader.specs.Readable.{is_named}
 use Rattle.sql_bind.proofs.Found.{IsAt, within}
@@ -45,10 +45,10 @@ module _ (used : List UsedColumn) where
       (preds_of used compared) ≡ true
   preds_in [] at = refl
   preds_in (p ∷ ps) at =
-      and_from (nat_lt (number_of used p.left) (length (items_of used)) && is_operand (items_of used)
+      and_from (nat_lt (column_number used p.left) (length (items_of used)) && is_operand (items_of used)
       (operand_of used p.right)) (list_all (λ pred.
       nat_lt pred.left (length (items_of used)) && is_operand (items_of used) pred.right) (preds_of used ps))
-      (and_from (nat_lt (number_of used p.left) (length (items_of used)))
+      (and_from (nat_lt (column_number used p.left) (length (items_of used)))
       (is_operand (items_of used) (operand_of used p.right))
       (within used p.left (at p.left (among_left (in_compared p) (named_by_compared ps) p.left
       (among_first p.left (in_side p.right)))))
@@ -84,11 +84,12 @@ module _ (used : List UsedColumn) where
 
   argument_in : (name : Option (List ℕ)) (number : ℕ) (func : AggFunc) (arg : Option Column)
       → takes_its (whats.Aggregate number func arg) ≡ true → AreUsed (option_to_list arg)
-      → has_argument (items_of used) (record { func = func; arg = option_map (number_of used) arg; name = name }) ≡ true
+      → has_argument (items_of used) (record { func = func; arg = option_map (column_number used) arg; name = name }) ≡
+      true
   argument_in name number func None takes at =
       none_case (takes_column func) (list_all (λ n. nat_lt n (length (items_of used))) []) takes
   argument_in name number func (Some c) takes at =
-      some_case (takes_column func) (nat_lt (number_of used c) (length (items_of used))) takes
+      some_case (takes_column func) (nat_lt (column_number used c) (length (items_of used))) takes
       (within used c (at c (among_first c [])))
 
   one_argument : (name : Option (List ℕ)) (what : What) → takes_its what ≡ true → AreUsed (in_what what)
@@ -97,7 +98,7 @@ module _ (used : List UsedColumn) where
   one_argument name (whats.Aggregate number func arg) takes used_there =
       and_from (has_argument (items_of used) (record {
         func = func;
-        arg = option_map (number_of used) arg;
+        arg = option_map (column_number used) arg;
         name = name;
       })) true (argument_in name number func arg takes used_there) refl
 

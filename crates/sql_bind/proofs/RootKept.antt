@@ -21,7 +21,7 @@ use Rattle.sql_bind.specs.SelectList.{aggregates, is_aggregate}
 use Rattle.sql_bind.specs.SortKeys.{target_of}
 use Rattle.sql_bind.specs.Used.{UsedColumn, in_target, in_what, named_by_chosen, named_by_keys}
 use Rattle.sql_bind.specs.Grouping.{loose_chosen, loose_keys, loose_target, loose_what}
-use Rattle.sql_bind.specs.Numbers.{number_of, target_number}
+use Rattle.sql_bind.specs.Numbers.{column_number, target_number}
 use Rattle.sql_bind.specs.Query.{group_numbers, items_of, item_of, itself, key_of, outputs_of}
 use Rattle.sql_bind.proofs.Found.{IsAt, same_is, within}
 use Rattle.sql_bind.proofs.Among.{among_first, among_left, among_right}
@@ -42,29 +42,30 @@ loose_case false at e = absurd cc
 
 module _ (used : List UsedColumn) (group : List Column) where
   number_among : (c : Column) (ds : List Column) → is_among ds c ≡ true
-      → list_any (λ n. n == number_of used c) (map (number_of used) ds) ≡ true
+      → list_any (λ n. n == column_number used c) (map (column_number used) ds) ≡ true
   number_among c [] among = absurd cc
   number_among c (d ∷ ds) among =
       elim (or_cases (is_same c d) (is_among ds c) among) [
-        | inl same ↦ or_left (number_of used d == number_of used c)
-            (list_any (λ n. n == number_of used c) (map (number_of used) ds))
-            (eq-eqb (number_of used d) (number_of used c) (ap (number_of used) (sym (same_is c d same))))
-        | inr later ↦ or_right (number_of used d == number_of used c)
-            (list_any (λ n. n == number_of used c) (map (number_of used) ds)) (number_among c ds later)
+        | inl same ↦ or_left (column_number used d == column_number used c)
+            (list_any (λ n. n == column_number used c) (map (column_number used) ds))
+            (eq-eqb (column_number used d) (column_number used c) (ap (column_number used) (sym (same_is c d same))))
+        | inr later ↦ or_right (column_number used d == column_number used c)
+            (list_any (λ n. n == column_number used c) (map (column_number used) ds)) (number_among c ds later)
       ]
 
   in_group : (c : Column) → is_among group c ≡ true
-      → list_any (λ n. n == number_of used c) (group_numbers used group) ≡ true
-  in_group c among = number_kept itself (number_of used c) (map (number_of used) group) (number_among c group among)
+      → list_any (λ n. n == column_number used c) (group_numbers used group) ≡ true
+  in_group c among =
+      number_kept itself (column_number used c) (map (column_number used) group) (number_among c group among)
 
   module _ (grouped : Bool) (aggs : List Agg) where
     abbrev pub is_root : ℕ → Bool
     is_root n = is_root_item (items_of used) grouped (group_numbers used group) aggs n
 
     column_case : (b : Bool) (c : Column) → (b ≡ true → is_among group c ≡ true) → IsAt used c
-        → is_root_item (items_of used) b (group_numbers used group) aggs (number_of used c) ≡ true
-    column_case true c among at = or_left (list_any (λ n. n == number_of used c) (group_numbers used group))
-        (nat_le (length (items_of used)) (number_of used c) && nat_lt (number_of used c)
+        → is_root_item (items_of used) b (group_numbers used group) aggs (column_number used c) ≡ true
+    column_case true c among at = or_left (list_any (λ n. n == column_number used c) (group_numbers used group))
+        (nat_le (length (items_of used)) (column_number used c) && nat_lt (column_number used c)
         (length (items_of used) + length aggs)) (in_group c (among refl))
     column_case false c among at = within used c at
 
@@ -140,8 +141,9 @@ module _ (used : List UsedColumn) (group : List Column) where
       target_named : (target : Target) → is_target scope chosen target ≡ true → AreUsed used (in_target target)
           → is_named (items_of used) aggs (target_number used target) ≡ true
       target_named (targets.Column c) is there =
-          or_left (nat_lt (number_of used c) (length (items_of used)))
-          (option_map_or (λ agg. is_some agg.name) (slice_get aggs (number_of used c - length (items_of used))) false)
+          or_left (nat_lt (column_number used c) (length (items_of used)))
+          (option_map_or (λ agg. is_some agg.name) (slice_get aggs (column_number used c - length (items_of used)))
+          false)
           (within used c (there c (among_first c [])))
       target_named (targets.Aggregate n) is there =
           let place : (length used + n) - length (items_of used) ≡ n = omega (arith, length-map used item_of) in

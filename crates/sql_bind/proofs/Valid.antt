@@ -24,7 +24,7 @@ use Rattle.sql_bind.specs.Columns.{is_among}
 use Rattle.sql_bind.specs.SelectList.{aggregates}
 use Rattle.sql_bind.specs.Used.{UsedColumn, listed_from, named_by}
 use Rattle.sql_bind.specs.Used.{used_by, wanted_by}
-use Rattle.sql_bind.specs.Numbers.{number_of}
+use Rattle.sql_bind.specs.Numbers.{column_number}
 use Rattle.sql_bind.specs.Query.{aggs_of, distinct_by, group_numbers, items_of, item_of, itself, key_item, key_of}
 use Rattle.sql_bind.specs.Query.{order_of, outputs_of, output_of, preds_of, pred_of, tables_from}
 use Rattle.sql_bind.specs.Grouping.{is_grouped, loose_chosen, loose_keys, loose_places}
@@ -64,11 +64,11 @@ grouped_by : (groups : Bool) (n : ℕ) → 0 < n → (groups || nat_le 1 n) ≡ 
 grouped_by groups n some = or_right groups (nat_le 1 n) (least_one n (omega arith))
 
 numbers_in : (used : List UsedColumn) (group : List Column) → ((c : Column) → is_among group c ≡ true → IsAt used c)
-    → list_all (λ n. nat_lt n (length (items_of used))) (map (number_of used) group) ≡ true
+    → list_all (λ n. nat_lt n (length (items_of used))) (map (column_number used) group) ≡ true
 numbers_in used [] at = refl
 numbers_in used (c ∷ cs) at =
-    and_from (nat_lt (number_of used c) (length (items_of used)))
-    (list_all (λ n. nat_lt n (length (items_of used))) (map (number_of used) cs))
+    and_from (nat_lt (column_number used c) (length (items_of used)))
+    (list_all (λ n. nat_lt n (length (items_of used))) (map (column_number used) cs))
     (within used c (at c (among_first c cs))) (numbers_in used cs (λ d among. at d (among_later d c cs among)))
 
 outputs_named : (used : List UsedColumn) (chosen : List Chosen)
@@ -129,10 +129,10 @@ module _ (select : Select) (p : Parts) (readable : IsReadable select) (there : A
   grouping : OfQuery IsGrouping
   grouping =
       let u = all_used p in
-      let columns = map (number_of u) p.group in
+      let columns = map (column_number u) p.group in
       record {
-        marked = rw (as_counted u p.chosen, some_kept itself columns, length-map p.group (number_of u)) refl;
-        few = few_kept itself columns (length-map p.group (number_of u) ∙ there.group_counted) readable.few_columns;
+        marked = rw (as_counted u p.chosen, some_kept itself columns, length-map p.group (column_number u)) refl;
+        few = few_kept itself columns (length-map p.group (column_number u) ∙ there.group_counted) readable.few_columns;
         columns = all_kept itself (λ n. nat_lt n (length (items_of u))) columns (numbers_in u p.group there.group_used);
         apart = rw (map_itself (distinct_by itself columns)) at (no_twice itself columns);
         arguments = arguments_in u p.chosen there.list.arguments there.chosen_used;

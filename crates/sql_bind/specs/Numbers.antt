@@ -7,15 +7,15 @@ use Rattle.sql_bind.specs.Columns.{column, is_same}
 use Rattle.sql_bind.specs.Used.{UsedColumn}
 
 -- how many used columns come before this one
-abbrev pub number_of : List UsedColumn → Column → ℕ
-number_of [] c = 0
-number_of (u ∷ us) c = if is_same u.which c then 0 else suc (number_of us c)
+abbrev pub column_number : List UsedColumn → Column → ℕ
+column_number [] c = 0
+column_number (u ∷ us) c = if is_same u.which c then 0 else suc (column_number us c)
 
 -- the numbers of the columns at these places of a table
 abbrev pub numbers_of : List UsedColumn → ℕ → List ℕ → List ℕ
-numbers_of used table places = map (λ place. number_of used (column table place)) places
+numbers_of used table places = map (λ place. column_number used (column table place)) places
 
 -- the number of a column, or of an aggregate, which come after the columns
 abbrev pub target_number : List UsedColumn → Target → ℕ
-target_number used (targets.Column c) = number_of used c
+target_number used (targets.Column c) = column_number used c
 target_number used (targets.Aggregate number) = length used + number

@@ -23,7 +23,7 @@ use Rattle.sql_bind.specs.declared.sort_keys.SortKey.{SortKey}
 use Rattle.sql_bind.specs.Scope.{FromTable}
 use Rattle.sql_bind.specs.SortKeys.{target_of}
 use Rattle.sql_bind.specs.Used.{UsedColumn}
-use Rattle.sql_bind.specs.Numbers.{number_of, numbers_of, target_number}
+use Rattle.sql_bind.specs.Numbers.{column_number, numbers_of, target_number}
 
 -- ---- tables and items
 
@@ -74,13 +74,13 @@ tables_from used table (t ∷ ts) = table_of used table t ∷ tables_from used (
 -- ---- predicates
 
 abbrev pub operand_of : List UsedColumn → Side → Operand
-operand_of used (sides.Column c) = operands.Item (number_of used c)
+operand_of used (sides.Column c) = operands.Item (column_number used c)
 operand_of used (sides.Int value) = operands.Int value
 operand_of used (sides.Str text) = operands.Str text
 
 abbrev pub pred_of : List UsedColumn → Compared → Pred
 pred_of used compared = record {
-  left = number_of used compared.left;
+  left = column_number used compared.left;
   op = compared.op;
   right = operand_of used compared.right;
 }
@@ -94,7 +94,7 @@ preds_of used compared = map (pred_of used) compared
 abbrev pub agg_as : List UsedColumn → Option (List ℕ) → What → Option Agg
 agg_as used name (whats.Column at c) = None
 agg_as used name (whats.Aggregate number func arg) =
-    Some (record { func = func; arg = option_map (number_of used) arg; name = name })
+    Some (record { func = func; arg = option_map (column_number used) arg; name = name })
 
 abbrev pub agg_of : List UsedColumn → Chosen → Option Agg
 agg_of used chosen = agg_as used chosen.name chosen.what
@@ -130,7 +130,7 @@ itself n = n
 
 -- the GROUP BY columns, none of them twice
 abbrev pub group_numbers : List UsedColumn → List Column → List ℕ
-group_numbers used group = distinct_by itself (map (number_of used) group)
+group_numbers used group = distinct_by itself (map (column_number used) group)
 
 abbrev pub key_of : List UsedColumn → SortKey → OrderKey
 key_of used key = record { item = target_number used key.target; desc = key.desc }

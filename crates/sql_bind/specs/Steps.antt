@@ -11,5 +11,5 @@ abbrev pub Binding : Type 0 → Type 0
 Binding A = Result A BindFault
 
 -- what a function returned is what is bound, or the first fault, unless memory ran out
-abbrev pub Gives : {A : Type 0} → Binding A → Binding A → Type 0
-Gives bound returned = checked.Gives Memory bound returned
+abbrev pub Yields : {A : Type 0} → Binding A → Binding A → Type 0
+Yields bound returned = checked.Yields Memory bound returned

@@ -6,7 +6,7 @@ use Rattle.sql_bind.specs.declared.columns.Column.{Column}
 use Rattle.sql_bind.specs.declared.parts.Parts.{Parts}
 use Rattle.sql_bind.specs.Columns.{is_among}
 use Rattle.sql_bind.specs.Used.{UsedColumn, listed_from, named_by}
-use Rattle.sql_bind.specs.Numbers.{number_of}
+use Rattle.sql_bind.specs.Numbers.{column_number}
 
 -- the one is of an earlier table, or stands at an earlier place of one table of the catalogue
 abbrev pub comes_before : UsedColumn → UsedColumn → Bool
@@ -26,8 +26,8 @@ HasNumber used c number = option_map (λ u. u.which) (slice_get used number) ≡
 -- column has one
 pub record AreUsedColumns (parts : Parts) (used : List UsedColumn) : Type 0 where
   pub ascending : IsTrue (ascend used)
-  pub named : (c : Column) → IsTrue (is_among (named_by parts) c) → HasNumber used c (number_of used c)
-  pub listed : (c : Column) → IsTrue (is_among (listed_from 0 parts.scope) c) → HasNumber used c (number_of used c)
+  pub named : (c : Column) → IsTrue (is_among (named_by parts) c) → HasNumber used c (column_number used c)
+  pub listed : (c : Column) → IsTrue (is_among (listed_from 0 parts.scope) c) → HasNumber used c (column_number used c)
   pub only : (c : Column) (number : ℕ) → HasNumber used c number → IsTrue (is_among (named_by parts) c)
       ⊎ IsTrue (is_among (listed_from 0 parts.scope) c)
-  pub one : (c : Column) (number : ℕ) → HasNumber used c number → number ≡ number_of used c
+  pub one : (c : Column) (number : ℕ) → HasNumber used c number → number ≡ column_number used c

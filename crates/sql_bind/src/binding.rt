@@ -4,7 +4,7 @@ ghost use Rattle.query_core.specs.Catalog.{IsCatalog};
 ghost use Rattle.query_core.specs.Results.{AreOptions};
 ghost use Rattle.sql_bind.specs.Grouping.{judged};
 ghost use Rattle.sql_bind.specs.NamedParts.{AreNamed};
-ghost use Rattle.sql_bind.specs.Used.{used_by as used_columns};
+ghost use Rattle.sql_bind.specs.Used.{used_by as the_used_by};
 ghost use Rattle.sql_reader.specs.Readable.{IsReadable};
 ghost use Rattle.sql_bind.specs.Binding.{IsQueryOf, Binds};
 
@@ -30,7 +30,7 @@ fn query_of(
 ) -> Result<Query, AllocError>
     requires named { AreNamed select.now catalog.now options parts.now }
     requires judged { judged parts.now ≡ Ok parts.now }
-    requires used { used.now ≡ used_columns parts.now }
+    requires used { used.now ≡ the_used_by parts.now }
     ensures { IfOk result (IsQueryOf parts.now catalog.now options) }
 {
     let tables = tables_of(alloc, used, parts.scope.as_slice())?;
@@ -66,7 +66,7 @@ fn query_over(
     options: Options,
 ) -> Result<Query, BindFault>
     requires named { AreNamed select.now catalog.now options parts.now }
-    requires used { used.now ≡ used_columns parts.now }
+    requires used { used.now ≡ the_used_by parts.now }
     ensures { Binds select.now catalog.now options result }
 {
     judge(parts, used)?;

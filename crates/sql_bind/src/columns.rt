@@ -2,12 +2,15 @@
 ghost use Rattle.std.specs.Prelude.{◌≡◌, Option, ◌<◌, ◌^◌, ◌+◌, ◌≤◌, length, position, IfSome, IfOk};
 ghost use Rattle.std.specs.List.{list_any, AllByRecursion};
 ghost use Rattle.std.specs.Str.{bytes_eq};
-ghost use Rattle.sql_bind.specs.Steps.{Gives};
+ghost use Rattle.sql_bind.specs.Steps.{Yields};
 ghost use Rattle.sql_bind.specs.Scope.{FromTable};
-ghost use Rattle.sql_bind.specs.Columns.{belongs_to as belongs, place_in as the_place, candidates as all_candidates, only_one as the_only, column_of as the_column, columns_of as the_columns, is_among as among};
+ghost use Rattle.sql_bind.specs.Columns.{belongs_to as the_belongs_to, place_in as the_place_in};
+ghost use Rattle.sql_bind.specs.Columns.{candidates as the_candidates, only_one as the_only_one};
+ghost use Rattle.sql_bind.specs.Columns.{column_of as the_column_of, columns_of as the_columns_of};
+ghost use Rattle.sql_bind.specs.Columns.{is_among as the_is_among};
 
 use crate::fault::BindFault;
-use crate::scope::Source;
+use crate::scope::ScopeTable;
 use orca_base::{List, Text};
 use sql_reader::ColRef;
 use std::alloc::{AllocError, Global};
@@ -22,14 +25,14 @@ pub struct Column {
 }
 
 pub fn is_among(columns: &[Column], column: Column) -> bool
-    ensures { result ≡ among columns.now column }
+    ensures { result ≡ the_is_among columns.now column }
 {
     columns.contains(&column)
 }
 
 /// Whether the part before the point, if any, is the alias.
 fn belongs_to(table: &Option<Text>, alias: &Text) -> bool
-    ensures { result ≡ belongs table.now alias.now }
+    ensures { result ≡ the_belongs_to table.now alias.now }
 {
     match table {
         Some(name) => name.as_str() == alias.as_str(),
@@ -38,8 +41,8 @@ fn belongs_to(table: &Option<Text>, alias: &Text) -> bool
 }
 
 /// The place of the column that the reference names in the table.
-fn place_in(reference: &ColRef, source: &Source<'_>) -> Option<usize>
-    ensures place { result ≡ the_place reference.now source.now }
+fn place_in(reference: &ColRef, source: &ScopeTable<'_>) -> Option<usize>
+    ensures place { result ≡ the_place_in reference.now source.now }
     ensures within { IfSome result (λ i. i < length source.now.info.columns) }
 {
     if belongs_to(&reference.table, source.alias()) {
@@ -52,10 +55,10 @@ fn place_in(reference: &ColRef, source: &Source<'_>) -> Option<usize>
 /// Each column that the reference can mean.
 fn candidates(
     alloc: Global,
-    sources: &[Source<'_>],
+    sources: &[ScopeTable<'_>],
     reference: &ColRef,
 ) -> Result<Vec<Column>, AllocError>
-    ensures { IfOk result (λ found. found.items ≡ all_candidates reference.now 0 sources.now) }
+    ensures { IfOk result (λ found. found.items ≡ the_candidates reference.now 0 sources.now) }
 {
     let mut found = Vec::new(alloc);
     let mut table = 0;
@@ -69,7 +72,7 @@ fn candidates(
 }
 
 fn only_one(at: u32, found: &[Column]) -> Result<Column, BindFault>
-    ensures { result ≡ the_only at found.now }
+    ensures { result ≡ the_only_one at found.now }
 {
     match found {
         [] => Err(BindFault::UnknownColumn { at }),
@@ -81,10 +84,10 @@ fn only_one(at: u32, found: &[Column]) -> Result<Column, BindFault>
 /// The column that a reference means.
 pub fn column_of(
     alloc: Global,
-    sources: &[Source<'_>],
+    sources: &[ScopeTable<'_>],
     reference: &ColRef,
 ) -> Result<Column, BindFault>
-    ensures { Gives (the_column sources.now reference.now) result }
+    ensures { Yields (the_column_of sources.now reference.now) result }
 {
     let found = candidates(alloc, sources, reference)?;
     only_one(reference.at, &found)
@@ -93,10 +96,10 @@ pub fn column_of(
 /// The columns that references mean, in the order of the text.
 pub fn columns_of(
     alloc: Global,
-    sources: &[Source<'_>],
+    sources: &[ScopeTable<'_>],
     references: &[ColRef],
 ) -> Result<List<Column>, BindFault>
-    ensures { Gives (the_columns sources.now references.now) result }
+    ensures { Yields (the_columns_of sources.now references.now) result }
 {
     let mut columns = List::new(alloc);
     for reference in references {

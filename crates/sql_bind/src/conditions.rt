@@ -1,11 +1,12 @@
 //! The predicates of WHERE over columns.
 ghost use Rattle.std.specs.Prelude.{◌≡◌};
-ghost use Rattle.sql_bind.specs.Steps.{Gives};
-ghost use Rattle.sql_bind.specs.Conditions.{op_of as the_op, side_in as the_side, compared_in as the_comparison, compared_of as the_compared};
+ghost use Rattle.sql_bind.specs.Steps.{Yields};
+ghost use Rattle.sql_bind.specs.Conditions.{op_of as the_op_of, side_in as the_side_in, compared_in as the_compared_in};
+ghost use Rattle.sql_bind.specs.Conditions.{compared_of as the_compared_of};
 
 use crate::columns::{Column, column_of};
 use crate::fault::BindFault;
-use crate::scope::Source;
+use crate::scope::ScopeTable;
 use crate::written::Written;
 use orca_base::List;
 use query_core::CmpOp;
@@ -29,7 +30,7 @@ pub struct Compared<'a> {
 }
 
 fn op_of(op: SelOp) -> CmpOp
-    ensures { result ≡ the_op op }
+    ensures { result ≡ the_op_of op }
 {
     match op {
         SelOp::Eq => CmpOp::Eq,
@@ -43,10 +44,10 @@ fn op_of(op: SelOp) -> CmpOp
 
 fn side_in<'a>(
     alloc: Global,
-    sources: &[Source<'_>],
+    sources: &[ScopeTable<'_>],
     operand: &'a SelOperand,
 ) -> Result<Side<'a>, BindFault>
-    ensures { Gives (the_side sources.now operand.now) result }
+    ensures { Yields (the_side_in sources.now operand.now) result }
 {
     match operand {
         SelOperand::Column(reference) => {
@@ -61,10 +62,10 @@ fn side_in<'a>(
 #[tactic(auto, unfolding(crate::specs::Conditions::compared_in))]
 fn compared_in<'a>(
     alloc: Global,
-    sources: &[Source<'_>],
+    sources: &[ScopeTable<'_>],
     pred: &'a SelPred,
 ) -> Result<Compared<'a>, BindFault>
-    ensures { Gives (the_comparison sources.now pred.now) result }
+    ensures { Yields (the_compared_in sources.now pred.now) result }
 {
     let left = column_of(alloc, sources, &pred.left)?;
     let right = side_in(alloc, sources, &pred.right)?;
@@ -78,10 +79,10 @@ fn compared_in<'a>(
 /// The predicates in text order.
 pub fn compared_of<'a>(
     alloc: Global,
-    sources: &[Source<'_>],
+    sources: &[ScopeTable<'_>],
     preds: &'a [SelPred],
 ) -> Result<List<Compared<'a>>, BindFault>
-    ensures { Gives (the_compared sources.now preds.now) result }
+    ensures { Yields (the_compared_of sources.now preds.now) result }
 {
     let mut compared = List::new(alloc);
     for pred in preds {

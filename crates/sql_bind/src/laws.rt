@@ -9,15 +9,15 @@ ghost use Rattle.query_core.specs.declared.query.Query.{Query};
 ghost use Rattle.sql_reader.specs.declared.syntax.Select.{Select};
 ghost use Rattle.sql_bind.specs.declared.fault.BindFault.{BindFault};
 ghost use Rattle.sql_bind.specs.declared.parts.Parts.{Parts};
-ghost use Rattle.sql_bind.specs.Used.{used_by as used_columns};
+ghost use Rattle.sql_bind.specs.Used.{used_by as the_used_by};
 ghost use Rattle.sql_bind.specs.UsedColumns.{AreUsedColumns};
 ghost use Rattle.sql_reader.specs.Readable.{IsReadable};
-ghost use Rattle.sql_bind.specs.Binding.{binding as bound_parts, AreLinksOf, IsBound};
+ghost use Rattle.sql_bind.specs.Binding.{binding as the_binding, AreLinksOf, IsBound};
 
 /// A query's names are bound or have a fault of theirs, which is never want of memory. So each fault
 /// comes exactly where it is the first, unless memory runs out.
 pub fn faults_are_told()
-    ensures { (select : Select) (catalog : Catalog) → bound_parts select catalog ≢ Err BindFault.Memory }
+    ensures { (select : Select) (catalog : Catalog) → the_binding select catalog ≢ Err BindFault.Memory }
 {}
 
 /// The used columns of a query without a fault: those that it names, and those in the lists of its
@@ -25,14 +25,14 @@ pub fn faults_are_told()
 /// one.
 pub fn used_columns_are_known()
     ensures { (select : Select) (catalog : Catalog) (parts : Parts)
-        → IsReadable select → IsCatalog catalog → bound_parts select catalog ≡ Ok parts
-        → AreUsedColumns parts (used_columns parts) }
+        → IsReadable select → IsCatalog catalog → the_binding select catalog ≡ Ok parts
+        → AreUsedColumns parts (the_used_by parts) }
 {}
 
 /// A select that is bound without a fault is bound to a query, with whichever links its parts have.
 pub fn bound_queries_are_there()
     ensures { (select : Select) (catalog : Catalog) (options : Options) (parts : Parts) (links : List Link)
         → IsReadable select → IsCatalog catalog → AreOptions options
-        → bound_parts select catalog ≡ Ok parts → AreLinksOf parts links
+        → the_binding select catalog ≡ Ok parts → AreLinksOf parts links
         → (query : Query) × IsBound select catalog options query }
 {}

@@ -2,12 +2,12 @@
 ghost use Rattle.std.specs.Prelude.{List};
 ghost use Rattle.sql_reader.specs.declared.syntax.ColRef.{ColRef};
 ghost use Rattle.sql_bind.specs.Scope.{FromTable};
-ghost use Rattle.sql_bind.specs.Columns.{column_of as meant_column};
+ghost use Rattle.sql_bind.specs.Columns.{column_of as the_column_of};
 ghost use Rattle.sql_bind.specs.Meaning.{IsMeaning};
 
 /// A reference means the one column that it can name. Where it can name none it is unknown, and
 /// where it can name two it is ambiguous.
 pub fn one_meaning()
     ensures { (scope : List FromTable) (reference : ColRef)
-        → IsMeaning scope reference (meant_column scope reference) }
+        → IsMeaning scope reference (the_column_of scope reference) }
 {}

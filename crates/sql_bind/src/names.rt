@@ -10,11 +10,11 @@ use std::marker::Model;
 
 /// Names, none of them twice, in the order in which they were added.
 #[derive(Drop)]
-pub struct Names<'a> {
+pub struct DistinctNames<'a> {
     set: IndexSet<&'a str>,
 }
 
-impl<'a> Model for Names<'a> {
+impl<'a> Model for DistinctNames<'a> {
     ghost use Rattle.std.specs.Prelude.{List, ℕ, map};
 
     ghost Value = { List (List ℕ) };
@@ -22,12 +22,12 @@ impl<'a> Model for Names<'a> {
     ghost view = { λ n. map (λ k. k.now) n.set.keys };
 }
 
-impl<'a> Names<'a> {
+impl<'a> DistinctNames<'a> {
     /// No names yet, and room for so many.
-    pub fn with_capacity(alloc: Global, count: usize) -> Result<Names<'a>, AllocError>
+    pub fn with_capacity(alloc: Global, count: usize) -> Result<DistinctNames<'a>, AllocError>
         ensures { IfOk result (λ names. names ≡ []) }
     {
-        Ok(Names {
+        Ok(DistinctNames {
             set: IndexSet::with_capacity(alloc, count)?,
         })
     }
@@ -38,7 +38,7 @@ impl<'a> Names<'a> {
         self.set.contains(name.as_str())
     }
 
-    pub fn number_of(&self, name: &Text) -> Option<usize>
+    pub fn position_of(&self, name: &Text) -> Option<usize>
         ensures number { result ≡ position (bytes_eq name.now) self.now }
         ensures within { IfSome result (λ i. i < length self.now) }
     {

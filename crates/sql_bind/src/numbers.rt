@@ -2,7 +2,8 @@
 ghost use Rattle.std.specs.Prelude.{◌≡◌, ◌≤◌, IfOk, IsTrue, length, map};
 ghost use Rattle.query_core.specs.Differ.{all_differ};
 ghost use Rattle.sql_bind.specs.Columns.{is_same};
-ghost use Rattle.sql_bind.specs.Numbers.{number_of as the_number, numbers_of as all_numbers, target_number as number_of_target};
+ghost use Rattle.sql_bind.specs.Numbers.{column_number, numbers_of as the_numbers_of};
+ghost use Rattle.sql_bind.specs.Numbers.{target_number as the_target_number};
 
 use crate::columns::Column;
 use crate::sort_keys::Target;
@@ -53,9 +54,9 @@ impl<'a> UsedColumns<'a> {
     }
 
     /// How many used columns come before this one.
-    pub fn number_of(&self, column: Column) -> u32
+    pub fn number_of_column(&self, column: Column) -> u32
         requires { length self.now ≤ 60 }
-        ensures number { result ≡ the_number self.now column }
+        ensures number { result ≡ column_number self.now column }
         ensures within { result ≤ length self.now }
     {
         match self.numbers.get_index_of(&column) {
@@ -84,7 +85,7 @@ pub fn numbers_of(
     places: &[u32],
 ) -> Result<List<u32>, AllocError>
     requires { length used.now ≤ 60 }
-    ensures { IfOk result (λ numbers. numbers ≡ all_numbers used.now table places.now) }
+    ensures { IfOk result (λ numbers. numbers ≡ the_numbers_of used.now table places.now) }
 {
     let mut numbers = List::new(alloc);
     for place in places {
@@ -92,7 +93,7 @@ pub fn numbers_of(
             table,
             place: *place as usize,
         };
-        numbers.push(used.number_of(column))?;
+        numbers.push(used.number_of_column(column))?;
     }
     Ok(numbers)
 }
@@ -100,10 +101,10 @@ pub fn numbers_of(
 /// The number of the item that is meant.
 pub fn target_number(used: &UsedColumns<'_>, target: Target) -> u32
     requires { length used.now ≤ 60 }
-    ensures { result ≡ number_of_target used.now target }
+    ensures { result ≡ the_target_number used.now target }
 {
     match target {
-        Target::Column(column) => used.number_of(column),
+        Target::Column(column) => used.number_of_column(column),
         Target::Aggregate(number) => used.len() as u32 + number as u32,
     }
 }

@@ -1,6 +1,7 @@
 //! GROUP BY and ORDER BY over numbered items, nothing twice.
 ghost use Rattle.std.specs.Prelude.{◌≡◌, ◌≤◌, [], IfOk, OnOk, length};
-ghost use Rattle.sql_bind.specs.Query.{group_numbers as the_group, key_of as the_key, order_of as the_order, key_item, any_number, with_new};
+ghost use Rattle.sql_bind.specs.Query.{group_numbers as the_group_numbers, key_of as the_key_of};
+ghost use Rattle.sql_bind.specs.Query.{order_of as the_order_of, key_item, any_number, with_new};
 
 use crate::columns::Column;
 use crate::numbers::{UsedColumns, target_number};
@@ -17,7 +18,7 @@ pub fn group_of(
     group: &[Column],
 ) -> Result<List<u32>, AllocError>
     requires { length used.now ≤ 60 }
-    ensures { IfOk result (λ numbers. numbers ≡ the_group used.now group.now) }
+    ensures { IfOk result (λ numbers. numbers ≡ the_group_numbers used.now group.now) }
 {
     let mut kept = IndexSet::new(alloc);
     numbers_in(alloc, used, group, &mut kept)
@@ -32,17 +33,17 @@ fn numbers_in(
 ) -> Result<List<u32>, AllocError>
     requires few { length used.now ≤ 60 }
     requires empty { kept.old.keys ≡ [] }
-    ensures { IfOk result (λ numbers. numbers ≡ the_group used.now group.now) }
+    ensures { IfOk result (λ numbers. numbers ≡ the_group_numbers used.now group.now) }
 {
     for column in group {
-        kept.insert(used.number_of(*column))?;
+        kept.insert(used.number_of_column(*column))?;
     }
     Ok(List::of(Vec::from_slice(alloc, kept.as_slice())?))
 }
 
 fn key_of(used: &UsedColumns<'_>, key: SortKey) -> OrderKey
     requires { length used.now ≤ 60 }
-    ensures { result ≡ the_key used.now key }
+    ensures { result ≡ the_key_of used.now key }
 {
     OrderKey {
         item: target_number(used, key.target),
@@ -73,7 +74,7 @@ pub fn order_of(
     keys: &[SortKey],
 ) -> Result<List<OrderKey>, AllocError>
     requires { length used.now ≤ 60 }
-    ensures { IfOk result (λ order. order ≡ the_order used.now keys.now) }
+    ensures { IfOk result (λ order. order ≡ the_order_of used.now keys.now) }
 {
     let mut kept = List::new(alloc);
     for key in keys {

@@ -1,13 +1,19 @@
 //! The parts of the query over numbered items.
-ghost use Rattle.std.specs.Prelude.{◌≡◌, ◌≤◌, ◌++◌, ◌∷◌, [], IfOk, OnOk, length, option_map, option_to_list, nat_le, IsTrue};
+ghost use Rattle.std.specs.Prelude.{◌≡◌, ◌≤◌, ◌++◌, ◌∷◌, [], IfOk, OnOk, length, option_map, option_to_list, nat_le};
+ghost use Rattle.std.specs.Prelude.{IsTrue};
 ghost use Rattle.std.specs.List.{list_all};
-ghost use Rattle.sql_bind.specs.Numbers.{number_of as the_number};
-ghost use Rattle.sql_bind.specs.Query.{item_of as the_item, items_of as the_items, hashed_of as the_hashed, is_replicated as lies_on_each, indexes_of as the_indexes, table_of as the_table, tables_from as the_tables, operand_of as the_operand, pred_of as the_pred, preds_of as the_preds, agg_of as the_agg, aggs_of as the_aggs, output_of as the_output, outputs_of as the_outputs};
+ghost use Rattle.sql_bind.specs.Numbers.{column_number};
+ghost use Rattle.sql_bind.specs.Query.{item_of as the_item_of, items_of as the_items_of, hashed_of as the_hashed_of};
+ghost use Rattle.sql_bind.specs.Query.{is_replicated as the_is_replicated, indexes_of as the_indexes_of};
+ghost use Rattle.sql_bind.specs.Query.{table_of as the_table_of, tables_from as the_tables_from};
+ghost use Rattle.sql_bind.specs.Query.{operand_of as the_operand_of, pred_of as the_pred_of, preds_of as the_preds_of};
+ghost use Rattle.sql_bind.specs.Query.{agg_of as the_agg_of, aggs_of as the_aggs_of, output_of as the_output_of};
+ghost use Rattle.sql_bind.specs.Query.{outputs_of as the_outputs_of};
 
 use crate::columns::Column;
 use crate::conditions::{Compared, Side};
 use crate::numbers::{UsedColumns, numbers_of, target_number};
-use crate::scope::Source;
+use crate::scope::ScopeTable;
 use crate::select_list::{Chosen, What};
 use crate::sort_keys::target_of;
 use crate::used::Used;
@@ -18,7 +24,7 @@ use std::alloc::{AllocError, Global};
 
 fn add_item(alloc: Global, used: &Used<'_>, items: &mut List<Item>) -> Result<(), AllocError>
     requires { used.now.which.table ≤ 10 }
-    ensures { OnOk result (items.new ≡ items.old ++ the_item used.now ∷ []) }
+    ensures { OnOk result (items.new ≡ items.old ++ the_item_of used.now ∷ []) }
 {
     items.push(Item {
         table: used.column().table as u32,
@@ -40,7 +46,7 @@ fn copied(alloc: Global, histogram: &Option<Histogram>) -> Result<Option<Histogr
 /// The used columns, as items.
 pub fn items_of(alloc: Global, used: &[Used<'_>]) -> Result<List<Item>, AllocError>
     requires { IsTrue (list_all (λ u. nat_le u.which.table 10) used.now) }
-    ensures { IfOk result (λ items. items ≡ the_items used.now) }
+    ensures { IfOk result (λ items. items ≡ the_items_of used.now) }
 {
     let mut items = List::new(alloc);
     for column in used {
@@ -56,7 +62,7 @@ fn hashed_of(
     placing: &Placing,
 ) -> Result<Option<List<u32>>, AllocError>
     requires { length used.now ≤ 60 }
-    ensures { IfOk result (λ hashed. hashed ≡ the_hashed used.now table placing.now) }
+    ensures { IfOk result (λ hashed. hashed ≡ the_hashed_of used.now table placing.now) }
 {
     match placing {
         Placing::Hashed(places) => Ok(Some(numbers_of(alloc, used, table, places.as_slice())?)),
@@ -66,7 +72,7 @@ fn hashed_of(
 }
 
 fn is_replicated(placing: &Placing) -> bool
-    ensures { result ≡ lies_on_each placing.now }
+    ensures { result ≡ the_is_replicated placing.now }
 {
     match placing {
         Placing::Hashed(_) => false,
@@ -82,7 +88,7 @@ fn indexes_of(
     indexes: &[List<u32>],
 ) -> Result<List<List<u32>>, AllocError>
     requires { length used.now ≤ 60 }
-    ensures { IfOk result (λ numbered. numbered ≡ the_indexes used.now table indexes.now) }
+    ensures { IfOk result (λ numbered. numbered ≡ the_indexes_of used.now table indexes.now) }
 {
     let mut numbered = List::new(alloc);
     for index in indexes {
@@ -96,10 +102,10 @@ fn table_of(
     alloc: Global,
     used: &UsedColumns<'_>,
     table: usize,
-    source: &Source<'_>,
+    source: &ScopeTable<'_>,
 ) -> Result<QueryTable, AllocError>
     requires { length used.now ≤ 60 }
-    ensures { IfOk result (λ made. made ≡ the_table used.now table source.now) }
+    ensures { IfOk result (λ made. made ≡ the_table_of used.now table source.now) }
 {
     let info = source.info();
     Ok(QueryTable {
@@ -115,10 +121,10 @@ fn table_of(
 pub fn tables_of(
     alloc: Global,
     used: &UsedColumns<'_>,
-    sources: &[Source<'_>],
+    sources: &[ScopeTable<'_>],
 ) -> Result<List<QueryTable>, AllocError>
     requires { length used.now ≤ 60 }
-    ensures { IfOk result (λ tables. tables ≡ the_tables used.now 0 sources.now) }
+    ensures { IfOk result (λ tables. tables ≡ the_tables_from used.now 0 sources.now) }
 {
     let mut tables = List::new(alloc);
     let mut table = 0;
@@ -132,10 +138,10 @@ pub fn tables_of(
 
 fn operand_of(alloc: Global, used: &UsedColumns<'_>, side: &Side<'_>) -> Result<Operand, AllocError>
     requires { length used.now ≤ 60 }
-    ensures { IfOk result (λ operand. operand ≡ the_operand used.now side.now) }
+    ensures { IfOk result (λ operand. operand ≡ the_operand_of used.now side.now) }
 {
     match side {
-        Side::Column(column) => Ok(Operand::Item(used.number_of(*column))),
+        Side::Column(column) => Ok(Operand::Item(used.number_of_column(*column))),
         Side::Int(value) => Ok(Operand::Int(*value)),
         Side::Str(text) => Ok(Operand::Str(text.copy(alloc)?)),
     }
@@ -148,10 +154,10 @@ fn add_pred(
     preds: &mut List<Pred>,
 ) -> Result<(), AllocError>
     requires { length used.now ≤ 60 }
-    ensures { OnOk result (preds.new ≡ preds.old ++ the_pred used.now compared.now ∷ []) }
+    ensures { OnOk result (preds.new ≡ preds.old ++ the_pred_of used.now compared.now ∷ []) }
 {
     preds.push(Pred {
-        left: used.number_of(compared.left),
+        left: used.number_of_column(compared.left),
         op: compared.op,
         right: operand_of(alloc, used, &compared.right)?,
     })
@@ -164,7 +170,7 @@ pub fn preds_of(
     compared: &[Compared<'_>],
 ) -> Result<List<Pred>, AllocError>
     requires { length used.now ≤ 60 }
-    ensures { IfOk result (λ preds. preds ≡ the_preds used.now compared.now) }
+    ensures { IfOk result (λ preds. preds ≡ the_preds_of used.now compared.now) }
 {
     let mut preds = List::new(alloc);
     for comparison in compared {
@@ -184,10 +190,10 @@ fn name_of(alloc: Global, name: &Option<Written<'_>>) -> Result<Option<Text>, Al
 
 fn argument_of(used: &UsedColumns<'_>, arg: Option<Column>) -> Option<u32>
     requires { length used.now ≤ 60 }
-    ensures { result ≡ option_map (the_number used.now) arg }
+    ensures { result ≡ option_map (column_number used.now) arg }
 {
     match arg {
-        Some(column) => Some(used.number_of(column)),
+        Some(column) => Some(used.number_of_column(column)),
         None => None,
     }
 }
@@ -200,7 +206,7 @@ fn add_agg(
     aggs: &mut List<Agg>,
 ) -> Result<(), AllocError>
     requires { length used.now ≤ 60 }
-    ensures { OnOk result (aggs.new ≡ aggs.old ++ option_to_list (the_agg used.now chosen.now)) }
+    ensures { OnOk result (aggs.new ≡ aggs.old ++ option_to_list (the_agg_of used.now chosen.now)) }
 {
     match chosen.what {
         What::Column { at: _, column: _ } => Ok(()),
@@ -223,7 +229,7 @@ pub fn aggs_of(
     chosen: &[Chosen<'_>],
 ) -> Result<List<Agg>, AllocError>
     requires { length used.now ≤ 60 }
-    ensures { IfOk result (λ aggs. aggs ≡ the_aggs used.now chosen.now) }
+    ensures { IfOk result (λ aggs. aggs ≡ the_aggs_of used.now chosen.now) }
 {
     let mut aggs = List::new(alloc);
     for element in chosen {
@@ -239,7 +245,7 @@ fn add_output(
     outputs: &mut List<OutItem>,
 ) -> Result<(), AllocError>
     requires { length used.now ≤ 60 }
-    ensures { OnOk result (outputs.new ≡ outputs.old ++ the_output used.now chosen.now ∷ []) }
+    ensures { OnOk result (outputs.new ≡ outputs.old ++ the_output_of used.now chosen.now ∷ []) }
 {
     outputs.push(OutItem {
         item: target_number(used, target_of(chosen.what)),
@@ -254,7 +260,7 @@ pub fn outputs_of(
     chosen: &[Chosen<'_>],
 ) -> Result<List<OutItem>, AllocError>
     requires { length used.now ≤ 60 }
-    ensures { IfOk result (λ outputs. outputs ≡ the_outputs used.now chosen.now) }
+    ensures { IfOk result (λ outputs. outputs ≡ the_outputs_of used.now chosen.now) }
 {
     let mut outputs = List::new(alloc);
     for element in chosen {

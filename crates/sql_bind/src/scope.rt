@@ -1,14 +1,17 @@
 //! The tables of FROM under their aliases.
-ghost use Rattle.std.specs.Prelude.{◌≡◌, ◌<◌, List, ◌∷◌, [], ◌++◌, true, length, map, position, option_copied, IfOk, IfSome, IsTrue};
+ghost use Rattle.std.specs.Prelude.{◌≡◌, ◌<◌, List, ◌∷◌, [], ◌++◌, true, length, map, position, option_copied, IfOk};
+ghost use Rattle.std.specs.Prelude.{IfSome, IsTrue};
 ghost use Rattle.std.specs.Option.{ForSome};
 ghost use Rattle.std.specs.Str.{bytes_eq};
 ghost use Rattle.query_core.specs.Catalog.{IsCatalog, IsTable};
 ghost use Rattle.query_core.specs.Differ.{texts_differ};
-ghost use Rattle.sql_bind.specs.Steps.{Gives};
-ghost use Rattle.sql_bind.specs.Scope.{alias_of as the_alias, alias_at as the_alias_at, aliased as the_aliased, from_table as from_the_table, info_of as the_info, scope_of as the_scope, aliases, FromTable};
+ghost use Rattle.sql_bind.specs.Steps.{Yields};
+ghost use Rattle.sql_bind.specs.Scope.{alias_of as the_alias_of, alias_at as the_alias_at, aliased as the_aliased};
+ghost use Rattle.sql_bind.specs.Scope.{from_table as the_from_table, info_of as the_info_of, scope_of as the_scope_of};
+ghost use Rattle.sql_bind.specs.Scope.{aliases, FromTable};
 
 use crate::fault::BindFault;
-use crate::names::Names;
+use crate::names::DistinctNames;
 use orca_base::{List, Text};
 use query_core::{Catalog, ColumnInfo, TableInfo};
 use sql_reader::FromItem;
@@ -17,13 +20,13 @@ use std::marker::Model;
 
 /// A table of FROM: its alias, what the catalogue says of it, and its columns by their names.
 #[derive(Drop)]
-pub struct Source<'a> {
+pub struct ScopeTable<'a> {
     name: &'a Text,
     info: &'a TableInfo,
-    columns: Names<'a>,
+    columns: DistinctNames<'a>,
 }
 
-impl<'a> Model for Source<'a> {
+impl<'a> Model for ScopeTable<'a> {
     ghost use Rattle.std.specs.Prelude.{◌≡◌, map};
     ghost use Rattle.sql_bind.specs.Scope.{FromTable};
 
@@ -34,12 +37,16 @@ impl<'a> Model for Source<'a> {
     ghost invariant = { λ s. s.columns ≡ map (λ c. c.name) s.info.now.columns };
 }
 
-impl<'a> Source<'a> {
-    fn new(alloc: Global, alias: &'a Text, info: &'a TableInfo) -> Result<Source<'a>, AllocError>
+impl<'a> ScopeTable<'a> {
+    fn new(
+        alloc: Global,
+        alias: &'a Text,
+        info: &'a TableInfo,
+    ) -> Result<ScopeTable<'a>, AllocError>
         requires { IsTable info.now }
         ensures { IfOk result (λ s. s ≡ record { alias = alias.now; info = info.now }) }
     {
-        Ok(Source {
+        Ok(ScopeTable {
             name: alias,
             info,
             columns: column_names(alloc, info.columns.as_slice())?,
@@ -63,16 +70,19 @@ impl<'a> Source<'a> {
         ensures place { result ≡ position (bytes_eq name.now) (map (λ c. c.name) self.now.info.columns) }
         ensures within { IfSome result (λ i. i < length self.now.info.columns) }
     {
-        self.columns.number_of(name)
+        self.columns.position_of(name)
     }
 }
 
 /// The names of a table's columns.
-fn column_names<'a>(alloc: Global, columns: &'a [ColumnInfo]) -> Result<Names<'a>, AllocError>
+fn column_names<'a>(
+    alloc: Global,
+    columns: &'a [ColumnInfo],
+) -> Result<DistinctNames<'a>, AllocError>
     requires { IsTrue (texts_differ (map (λ c. c.name) columns.now)) }
     ensures { IfOk result (λ names. names ≡ map (λ c. c.name) columns.now) }
 {
-    let mut names = Names::with_capacity(alloc, columns.len())?;
+    let mut names = DistinctNames::with_capacity(alloc, columns.len())?;
     for column in columns {
         names.add(&column.name)?;
     }
@@ -80,7 +90,7 @@ fn column_names<'a>(alloc: Global, columns: &'a [ColumnInfo]) -> Result<Names<'a
 }
 
 fn alias_of(item: &FromItem) -> &Text
-    ensures { result.now ≡ the_alias item.now }
+    ensures { result.now ≡ the_alias_of item.now }
 {
     match &item.alias {
         Some(alias) => alias,
@@ -99,7 +109,7 @@ fn alias_at(item: &FromItem) -> u32
 
 #[tactic(auto, unfolding(crate::specs::Scope::info_of))]
 fn info_of<'a>(tables: &'a [TableInfo], name: &Text) -> Option<&'a TableInfo>
-    ensures { option_copied result ≡ the_info tables.now name.now }
+    ensures { option_copied result ≡ the_info_of tables.now name.now }
 {
     tables
         .iter()
@@ -110,13 +120,13 @@ fn info_of<'a>(tables: &'a [TableInfo], name: &Text) -> Option<&'a TableInfo>
 #[tactic(auto, unfolding(crate::specs::Scope::has_alias))]
 fn aliased<'a>(
     alloc: Global,
-    before: &mut Names<'a>,
+    before: &mut DistinctNames<'a>,
     item: &'a FromItem,
     found: Option<&'a TableInfo>,
-) -> Result<Source<'a>, BindFault>
+) -> Result<ScopeTable<'a>, BindFault>
     requires { ForSome (option_copied found) IsTable }
     ensures bound { (scope : List FromTable) → before.old ≡ aliases scope
-        → Gives (the_aliased scope item.now (option_copied found.entry)) result }
+        → Yields (the_aliased scope item.now (option_copied found.entry)) result }
     ensures added { IfOk result (λ t. before.new ≡ before.old ++ t.alias ∷ []) }
 {
     let Some(info) = found else {
@@ -127,19 +137,19 @@ fn aliased<'a>(
         return Err(BindFault::TwiceAlias { at: alias_at(item) });
     }
     before.add(alias)?;
-    Ok(Source::new(alloc, alias, info)?)
+    Ok(ScopeTable::new(alloc, alias, info)?)
 }
 
 fn from_table<'a>(
     alloc: Global,
     catalog: &'a Catalog,
-    before: &[Source<'a>],
-    names: &mut Names<'a>,
+    before: &[ScopeTable<'a>],
+    names: &mut DistinctNames<'a>,
     item: &'a FromItem,
-) -> Result<Source<'a>, BindFault>
+) -> Result<ScopeTable<'a>, BindFault>
     requires catalogue { IsCatalog catalog.now }
     requires names { names.old ≡ aliases before.now }
-    ensures bound { Gives (from_the_table catalog.now before.now item.now) result }
+    ensures bound { Yields (the_from_table catalog.now before.now item.now) result }
     ensures added { IfOk result (λ t. names.new ≡ names.old ++ t.alias ∷ []) }
 {
     let found = info_of(catalog.tables.as_slice(), &item.table);
@@ -151,11 +161,11 @@ pub fn scope_of<'a>(
     alloc: Global,
     catalog: &'a Catalog,
     from: &'a [FromItem],
-) -> Result<List<Source<'a>>, BindFault>
+) -> Result<List<ScopeTable<'a>>, BindFault>
     requires { IsCatalog catalog.now }
-    ensures { Gives (the_scope catalog.now from.now) result }
+    ensures { Yields (the_scope_of catalog.now from.now) result }
 {
-    let mut names = Names::with_capacity(alloc, from.len())?;
+    let mut names = DistinctNames::with_capacity(alloc, from.len())?;
     sources_of(alloc, catalog, from, &mut names)
 }
 
@@ -164,11 +174,11 @@ fn sources_of<'a>(
     alloc: Global,
     catalog: &'a Catalog,
     from: &'a [FromItem],
-    names: &mut Names<'a>,
-) -> Result<List<Source<'a>>, BindFault>
+    names: &mut DistinctNames<'a>,
+) -> Result<List<ScopeTable<'a>>, BindFault>
     requires catalogue { IsCatalog catalog.now }
     requires empty { names.old ≡ [] }
-    ensures { Gives (the_scope catalog.now from.now) result }
+    ensures { Yields (the_scope_of catalog.now from.now) result }
 {
     let mut scope = List::new(alloc);
     for item in from {

@@ -1,13 +1,17 @@
 //! The select list: plain columns, and aggregates, which are numbered from 0 in text order.
 ghost use Rattle.std.specs.Prelude.{◌≡◌, ◌<◌, ◌≤◌, ◌++◌, List, [], length, IfOk, option_to_list};
 ghost use Rattle.sql_bind.specs.declared.select_list.Chosen.{Chosen};
-ghost use Rattle.sql_bind.specs.Steps.{Gives};
-ghost use Rattle.sql_bind.specs.SelectList.{function_of as the_function, is_aggregate as is_an_aggregate, aggregates as all_aggregates, call_in as the_call, what_in as the_what, is_called as has_name, output_names, named_as as named_so, chosen_in as chosen_of_item, chosen_of as the_chosen};
+ghost use Rattle.sql_bind.specs.Steps.{Yields};
+ghost use Rattle.sql_bind.specs.SelectList.{function_of as the_function_of, is_aggregate as the_is_aggregate};
+ghost use Rattle.sql_bind.specs.SelectList.{aggregates as the_aggregates, call_in as the_call_in};
+ghost use Rattle.sql_bind.specs.SelectList.{what_in as the_what_in, is_called as the_is_called, output_names};
+ghost use Rattle.sql_bind.specs.SelectList.{named_as as the_named_as, chosen_in as the_chosen_in};
+ghost use Rattle.sql_bind.specs.SelectList.{chosen_of as the_chosen_of};
 
 use crate::columns::{Column, column_of};
 use crate::fault::BindFault;
-use crate::names::Names;
-use crate::scope::Source;
+use crate::names::DistinctNames;
+use crate::scope::ScopeTable;
 use crate::written::Written;
 use orca_base::{List, Text};
 use query_core::AggFunc;
@@ -39,7 +43,7 @@ pub struct Chosen<'a> {
 }
 
 fn function_of(func: SelFunc) -> AggFunc
-    ensures { result ≡ the_function func }
+    ensures { result ≡ the_function_of func }
 {
     match func {
         SelFunc::CountAll => AggFunc::CountAll,
@@ -51,7 +55,7 @@ fn function_of(func: SelFunc) -> AggFunc
 }
 
 pub fn is_aggregate(what: What) -> bool
-    ensures { result ≡ is_an_aggregate what }
+    ensures { result ≡ the_is_aggregate what }
 {
     match what {
         What::Column { .. } => false,
@@ -61,7 +65,7 @@ pub fn is_aggregate(what: What) -> bool
 
 /// How many aggregates there are.
 pub fn aggregates(chosen: &[Chosen<'_>]) -> usize
-    ensures count { result ≡ all_aggregates chosen.now }
+    ensures count { result ≡ the_aggregates chosen.now }
     ensures few { result ≤ length chosen.now }
 {
     let mut count = 0;
@@ -75,12 +79,12 @@ pub fn aggregates(chosen: &[Chosen<'_>]) -> usize
 
 fn call_in(
     alloc: Global,
-    sources: &[Source<'_>],
+    sources: &[ScopeTable<'_>],
     number: u8,
     func: AggFunc,
     arg: &Option<ColRef>,
 ) -> Result<What, BindFault>
-    ensures { Gives (the_call sources.now number func arg.now) result }
+    ensures { Yields (the_call_in sources.now number func arg.now) result }
 {
     match arg {
         None => Ok(What::Aggregate {
@@ -101,11 +105,11 @@ fn call_in(
 
 fn what_in(
     alloc: Global,
-    sources: &[Source<'_>],
+    sources: &[ScopeTable<'_>],
     number: u8,
     expr: &SelExpr,
 ) -> Result<What, BindFault>
-    ensures { Gives (the_what sources.now number expr.now) result }
+    ensures { Yields (the_what_in sources.now number expr.now) result }
 {
     match expr {
         SelExpr::Column(reference) => {
@@ -120,7 +124,7 @@ fn what_in(
 }
 
 pub fn is_called(name: &Text, chosen: &Chosen<'_>) -> bool
-    ensures { result ≡ has_name name.now chosen.now }
+    ensures { result ≡ the_is_called name.now chosen.now }
 {
     match &chosen.name {
         Some(other) => other.is(name),
@@ -131,12 +135,12 @@ pub fn is_called(name: &Text, chosen: &Chosen<'_>) -> bool
 /// An element under its output name, which is added.
 #[tactic(auto, unfolding(crate::specs::SelectList::any_called))]
 fn named_as<'a>(
-    names: &mut Names<'a>,
+    names: &mut DistinctNames<'a>,
     item: &'a SelItem,
     what: What,
 ) -> Result<Chosen<'a>, BindFault>
     ensures bound { (before : List Chosen) → names.old ≡ output_names before
-        → Gives (named_so before item.now.name_at item.now.name what) result }
+        → Yields (the_named_as before item.now.name_at item.now.name what) result }
     ensures added { IfOk result (λ c. names.new ≡ names.old ++ option_to_list c.name) }
 {
     let Some(name) = &item.name else {
@@ -155,14 +159,14 @@ fn named_as<'a>(
 #[tactic(auto, unfolding(crate::specs::SelectList::chosen_in))]
 fn chosen_in<'a>(
     alloc: Global,
-    sources: &[Source<'_>],
+    sources: &[ScopeTable<'_>],
     before: &[Chosen<'_>],
-    names: &mut Names<'a>,
+    names: &mut DistinctNames<'a>,
     item: &'a SelItem,
 ) -> Result<Chosen<'a>, BindFault>
     requires few { length before.now ≤ 60 }
     requires names { names.old ≡ output_names before.now }
-    ensures bound { Gives (chosen_of_item sources.now before.now item.now) result }
+    ensures bound { Yields (the_chosen_in sources.now before.now item.now) result }
     ensures added { IfOk result (λ c. names.new ≡ names.old ++ option_to_list c.name) }
 {
     let number = aggregates(before) as u8;
@@ -173,26 +177,26 @@ fn chosen_in<'a>(
 /// The select list in text order.
 pub fn chosen_of<'a>(
     alloc: Global,
-    sources: &[Source<'_>],
+    sources: &[ScopeTable<'_>],
     items: &'a [SelItem],
 ) -> Result<List<Chosen<'a>>, BindFault>
     requires { length items.now ≤ 60 }
-    ensures { Gives (the_chosen sources.now items.now) result }
+    ensures { Yields (the_chosen_of sources.now items.now) result }
 {
-    let mut names = Names::with_capacity(alloc, items.len())?;
+    let mut names = DistinctNames::with_capacity(alloc, items.len())?;
     elements_of(alloc, sources, items, &mut names)
 }
 
 /// The elements of the select list, whose output names are added.
 fn elements_of<'a>(
     alloc: Global,
-    sources: &[Source<'_>],
+    sources: &[ScopeTable<'_>],
     items: &'a [SelItem],
-    names: &mut Names<'a>,
+    names: &mut DistinctNames<'a>,
 ) -> Result<List<Chosen<'a>>, BindFault>
     requires few { length items.now ≤ 60 }
     requires empty { names.old ≡ [] }
-    ensures { Gives (the_chosen sources.now items.now) result }
+    ensures { Yields (the_chosen_of sources.now items.now) result }
 {
     let mut chosen = List::new(alloc);
     for item in items {

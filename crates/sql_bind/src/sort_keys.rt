@@ -1,11 +1,13 @@
 //! The keys of ORDER BY: columns, and elements of the select list by their output names.
 ghost use Rattle.std.specs.Prelude.{◌≡◌, option_map, option_copied};
-ghost use Rattle.sql_bind.specs.Steps.{Gives};
-ghost use Rattle.sql_bind.specs.SortKeys.{target_of as the_target, first_called, named_target as target_named, meant_output as output_meant, target_in as target_by, key_in as key_of, keys_of as the_keys};
+ghost use Rattle.sql_bind.specs.Steps.{Yields};
+ghost use Rattle.sql_bind.specs.SortKeys.{target_of as the_target_of, first_called, named_target as the_named_target};
+ghost use Rattle.sql_bind.specs.SortKeys.{meant_output as the_meant_output, target_in as the_target_in};
+ghost use Rattle.sql_bind.specs.SortKeys.{key_in as the_key_in, keys_of as the_keys_of};
 
 use crate::columns::{Column, column_of};
 use crate::fault::BindFault;
-use crate::scope::Source;
+use crate::scope::ScopeTable;
 use crate::select_list::{Chosen, What, is_called};
 use orca_base::{List, Text};
 use sql_reader::{ColRef, SelKey};
@@ -29,7 +31,7 @@ pub struct SortKey {
 
 /// What an element of the select list stands for.
 pub fn target_of(what: What) -> Target
-    ensures { result ≡ the_target what }
+    ensures { result ≡ the_target_of what }
 {
     match what {
         What::Column { at: _, column } => Target::Column(column),
@@ -49,7 +51,7 @@ fn first_called<'c, 'a>(chosen: &'c [Chosen<'a>], name: &Text) -> Option<&'c Cho
 }
 
 fn named_target(found: Option<&Chosen<'_>>) -> Option<Target>
-    ensures { result ≡ target_named (option_copied found.entry) }
+    ensures { result ≡ the_named_target (option_copied found.entry) }
 {
     match found {
         Some(element) => Some(target_of(element.what)),
@@ -59,7 +61,7 @@ fn named_target(found: Option<&Chosen<'_>>) -> Option<Target>
 
 /// The output that a bare name means, where there is one of this name.
 fn meant_output(chosen: &[Chosen<'_>], reference: &ColRef) -> Option<Target>
-    ensures { result ≡ output_meant chosen.now reference.now.table reference.now.name }
+    ensures { result ≡ the_meant_output chosen.now reference.now.table reference.now.name }
 {
     match &reference.table {
         Some(_) => None,
@@ -69,11 +71,11 @@ fn meant_output(chosen: &[Chosen<'_>], reference: &ColRef) -> Option<Target>
 
 fn target_in(
     alloc: Global,
-    sources: &[Source<'_>],
+    sources: &[ScopeTable<'_>],
     meant: Option<Target>,
     reference: &ColRef,
 ) -> Result<Target, BindFault>
-    ensures { Gives (target_by sources.now meant reference.now) result }
+    ensures { Yields (the_target_in sources.now meant reference.now) result }
 {
     match meant {
         Some(target) => Ok(target),
@@ -86,11 +88,11 @@ fn target_in(
 
 fn key_in(
     alloc: Global,
-    sources: &[Source<'_>],
+    sources: &[ScopeTable<'_>],
     chosen: &[Chosen<'_>],
     key: &SelKey,
 ) -> Result<SortKey, BindFault>
-    ensures { Gives (key_of sources.now chosen.now key.now) result }
+    ensures { Yields (the_key_in sources.now chosen.now key.now) result }
 {
     let meant = meant_output(chosen, &key.col);
     let target = target_in(alloc, sources, meant, &key.col)?;
@@ -104,11 +106,11 @@ fn key_in(
 /// The keys in text order.
 pub fn keys_of(
     alloc: Global,
-    sources: &[Source<'_>],
+    sources: &[ScopeTable<'_>],
     chosen: &[Chosen<'_>],
     order_by: &[SelKey],
 ) -> Result<List<SortKey>, BindFault>
-    ensures { Gives (the_keys sources.now chosen.now order_by.now) result }
+    ensures { Yields (the_keys_of sources.now chosen.now order_by.now) result }
 {
     let mut keys = List::new(alloc);
     for key in order_by {

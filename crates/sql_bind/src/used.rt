@@ -1,14 +1,17 @@
 //! The columns that a query uses, by table and then by place in the catalogue.
 ghost use Rattle.std.specs.Prelude.{◌≡◌, ◌++◌, IfOk, OnOk};
 ghost use Rattle.sql_bind.specs.declared.columns.Column.{Column};
-ghost use Rattle.sql_bind.specs.Columns.{is_among as among};
-ghost use Rattle.sql_bind.specs.Used.{named_by_chosen, named_by_compared, named_by_keys, in_what, in_compared, in_target, listed_from, places_of, placed_by, indexed_by, wanted_by as all_wanted, used_in as columns_used_in, used_from as used_columns_from, used_by as used_columns};
+ghost use Rattle.sql_bind.specs.Columns.{is_among as the_is_among};
+ghost use Rattle.sql_bind.specs.Used.{named_by_chosen, named_by_compared, named_by_keys, in_what, in_compared};
+ghost use Rattle.sql_bind.specs.Used.{in_target, listed_from, places_of, placed_by, indexed_by};
+ghost use Rattle.sql_bind.specs.Used.{wanted_by as the_wanted_by, used_in as the_used_in, used_from as the_used_from};
+ghost use Rattle.sql_bind.specs.Used.{used_by as the_used_by};
 
 use crate::columns::Column;
 use crate::conditions::{Compared, Side};
 use crate::numbers::UsedColumns;
 use crate::parts::Parts;
-use crate::scope::Source;
+use crate::scope::ScopeTable;
 use crate::select_list::{Chosen, What};
 use crate::sort_keys::{SortKey, Target};
 use indexmap::IndexSet;
@@ -158,7 +161,7 @@ fn add_indexes(
     Ok(())
 }
 
-fn add_listed(sources: &[Source<'_>], wanted: &mut Vec<Column>) -> Result<(), AllocError>
+fn add_listed(sources: &[ScopeTable<'_>], wanted: &mut Vec<Column>) -> Result<(), AllocError>
     ensures { OnOk result (wanted.new.items ≡ wanted.old.items ++ listed_from 0 sources.now) }
 {
     let mut table = 0;
@@ -172,7 +175,7 @@ fn add_listed(sources: &[Source<'_>], wanted: &mut Vec<Column>) -> Result<(), Al
 
 /// The columns that the query names, and those in the lists of its tables. Some may come twice.
 fn wanted_by(alloc: Global, parts: &Parts<'_>) -> Result<Vec<Column>, AllocError>
-    ensures { IfOk result (λ wanted. wanted.items ≡ all_wanted parts.now) }
+    ensures { IfOk result (λ wanted. wanted.items ≡ the_wanted_by parts.now) }
 {
     let mut wanted = Vec::new(alloc);
     add_chosen(parts.chosen.as_slice(), &mut wanted)?;
@@ -185,7 +188,7 @@ fn wanted_by(alloc: Global, parts: &Parts<'_>) -> Result<Vec<Column>, AllocError
 
 /// The columns as a set.
 fn set_of(alloc: Global, columns: &[Column]) -> Result<IndexSet<Column>, AllocError>
-    ensures { IfOk result (λ set. (c : Column) → among set.keys c ≡ among columns.now c) }
+    ensures { IfOk result (λ set. (c : Column) → the_is_among set.keys c ≡ the_is_among columns.now c) }
 {
     let mut set = IndexSet::with_capacity(alloc, columns.len())?;
     for column in columns {
@@ -195,7 +198,7 @@ fn set_of(alloc: Global, columns: &[Column]) -> Result<IndexSet<Column>, AllocEr
 }
 
 fn is_wanted(wanted: &IndexSet<Column>, column: Column) -> bool
-    ensures { result ≡ among wanted.now.keys column }
+    ensures { result ≡ the_is_among wanted.now.keys column }
 {
     wanted.contains(&column)
 }
@@ -206,7 +209,7 @@ fn add_used<'a>(
     columns: &'a [ColumnInfo],
     used: &mut List<Used<'a>>,
 ) -> Result<(), AllocError>
-    ensures { OnOk result (used.new ≡ used.old ++ columns_used_in wanted.now.keys table 0 columns.now) }
+    ensures { OnOk result (used.new ≡ used.old ++ the_used_in wanted.now.keys table 0 columns.now) }
 {
     let mut place = 0;
     for info in columns {
@@ -222,9 +225,9 @@ fn add_used<'a>(
 fn used_from<'a>(
     alloc: Global,
     wanted: &IndexSet<Column>,
-    sources: &[Source<'a>],
+    sources: &[ScopeTable<'a>],
 ) -> Result<List<Used<'a>>, AllocError>
-    ensures { IfOk result (λ used. used ≡ used_columns_from wanted.now.keys 0 sources.now) }
+    ensures { IfOk result (λ used. used ≡ the_used_from wanted.now.keys 0 sources.now) }
 {
     let mut used = List::new(alloc);
     let mut table = 0;
@@ -238,7 +241,7 @@ fn used_from<'a>(
 /// The used columns in their order.
 #[tactic(auto, unfolding(crate::specs::Used::used_by))]
 pub fn used_by<'a>(alloc: Global, parts: &Parts<'a>) -> Result<UsedColumns<'a>, AllocError>
-    ensures { IfOk result (λ used. used ≡ used_columns parts.now) }
+    ensures { IfOk result (λ used. used ≡ the_used_by parts.now) }
 {
     let named = wanted_by(alloc, parts)?;
     let wanted = set_of(alloc, &named)?;

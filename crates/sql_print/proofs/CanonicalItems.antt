@@ -14,7 +14,7 @@ use Rattle.sql_reader.specs.declared.syntax.SelExpr.{SelExpr}
 use Rattle.sql_reader.specs.declared.syntax.SelExpr.TheVariants as exprs
 use Rattle.sql_reader.specs.declared.syntax.SelItem.{SelItem}
 use Rattle.sql_reader.specs.Tokens.{place_of, function_in}
-use Rattle.sql_reader.specs.Grammar.{Done, After, Then}
+use Rattle.sql_reader.specs.Grammar.{AtEnd, After, Then}
 use Rattle.sql_reader.specs.Query.{plain_column, column_in, count_all, aggregate, plain_item, named_item}
 use Rattle.sql_reader.specs.Query.{IsColumn, IsArgument, IsExpr, IsOutput, IsItem}
 use Rattle.sql_print.specs.Unplaced.{unplaced_column, unplaced_expr, unplaced_item}
@@ -57,7 +57,7 @@ column_again c us e = column_again_by c.table c.name us e
 
 -- a column, as something else
 pub as_column_again : {X : Type 0} (f : ColRef → X) (c : ColRef) (us : List Token) → kinds_of us ≡ column_kinds c
-    → (d : ColRef) × Then IsColumn (λ x. Done (f x)) us (f d) × (unplaced_column d ≡ unplaced_column c)
+    → (d : ColRef) × Then IsColumn (λ x. AtEnd (f x)) us (f d) × (unplaced_column d ≡ unplaced_column c)
 as_column_again f c us e =
     let d = column_again c us e in
     (d.0, record { front = us; back = []; value = d.0; whole = sym (append-nil us); first = d.1; second = refl }, d.2)
@@ -102,7 +102,7 @@ call_again_by function c (u ∷ v ∷ us) e =
     )
   where
     closes : (value : SelExpr) (ws : List Token) → kinds_of ws ≡ kinds.Mark marks.Close ∷ []
-        → After (place_of marks.Close) (λ _. Done value) ws value
+        → After (place_of marks.Close) (λ _. AtEnd value) ws value
     closes value [] k = absurd cc
     closes value (w ∷ []) k = let m : w.kind ≡ kinds.Mark marks.Close = cc in (w.at, mark_is w marks.Close m, refl)
     closes value (w ∷ x ∷ ws) k = absurd cc

@@ -1,7 +1,7 @@
 -- What kinds of tokens a canonical text has, and tokens taken apart by their kinds.
 use Rattle.std.proofs.Common.{◌≡◌, ℕ, eq-eqb, Bool, true, false, cond, List, [], ◌∷◌, ◌++◌, map, Option, Some, None}
 use Rattle.std.proofs.Common.{refl, ap, ◌∙◌}
-use Rattle.sql_reader.specs.Marks.{number_of}
+use Rattle.sql_reader.specs.Marks.{mark_number}
 use Rattle.sql_reader.specs.declared.tokens.Mark.{Mark}
 use Rattle.sql_reader.specs.declared.tokens.Mark.TheVariants as marks
 use Rattle.sql_reader.specs.declared.tokens.Function.{Function}
@@ -58,7 +58,7 @@ name_is u text e = ap (name_in u.at) e
 
 pub mark_is : (u : Token) (m : Mark) → u.kind ≡ kinds.Mark m → place_of m u ≡ Some u.at
 mark_is u m e = ap (λ (k : Kind). cond (is_mark m k) (Some u.at) None) e
-    ∙ ap (λ (b : Bool). cond b (Some u.at) None) (eq-eqb (number_of m) (number_of m) refl)
+    ∙ ap (λ (b : Bool). cond b (Some u.at) None) (eq-eqb (mark_number m) (mark_number m) refl)
 
 -- ---- what each part is printed as
 

@@ -88,18 +88,19 @@ kinds_are at (piece ∷ pieces) =
 
 -- ---- pieces that stand one behind the other
 
-abbrev pub Line : List Piece → List ℕ → Type 0
-Line [] rest = Unit {0}
-Line (piece ∷ pieces) rest = Fits piece × Stands piece (spelled pieces ++ rest) × Line pieces rest
+abbrev pub AreInLine : List Piece → List ℕ → Type 0
+AreInLine [] rest = Unit {0}
+AreInLine (piece ∷ pieces) rest = Fits piece × Stands piece (spelled pieces ++ rest) × AreInLine pieces rest
 
-line-append : (ps qs : List Piece) (rest : List ℕ) → Line ps (spelled qs ++ rest) → Line qs rest → Line (ps ++ qs) rest
+line-append : (ps qs : List Piece) (rest : List ℕ) → AreInLine ps (spelled qs ++ rest) → AreInLine qs rest
+    → AreInLine (ps ++ qs) rest
 line-append [] qs rest a b = b
 line-append (p ∷ ps) qs rest a b =
     let e : spelled (ps ++ qs) ++ rest ≡ spelled ps ++ (spelled qs ++ rest) =
     ap (λ (ts : List ℕ). ts ++ rest) (spelled-append ps qs) ∙ append_assoc (spelled ps) (spelled qs) rest in
     (a.0, subst (Stands p) (sym e) a.1, line-append ps qs rest a.2 b)
 
-pub line_are : (ps : List Piece) (rest : List ℕ) → Line ps rest → Are ps (spelled ps ++ rest) rest
+pub line_are : (ps : List Piece) (rest : List ℕ) → AreInLine ps rest → Are ps (spelled ps ++ rest) rest
 line_are [] rest l = refl
 line_are (p ∷ ps) rest l = (
   spelled ps ++ rest,
@@ -123,7 +124,7 @@ pub record Printed (May : List ℕ → Type 0) (text : List ℕ) (ks : List Kind
   pub whole : text ≡ spelled pieces
   pub calls_are : (next : List Kind) → NotOpen next → calls (raw pieces ++ next) ≡ ks ++ calls next
   pub closed : (next : List Kind) → NotOpen next → NotOpen (raw pieces ++ next)
-  pub line : (rest : List ℕ) → May rest → Line pieces rest
+  pub line : (rest : List ℕ) → May rest → AreInLine pieces rest
   pub plain : list_all is_plain text ≡ true
 
 all_plain : (t u : List ℕ) → list_all is_plain t ≡ true → list_all is_plain u ≡ true → list_all is_plain (t ++ u) ≡ true
@@ -200,7 +201,8 @@ marks_closed (kinds.Quoted text ∷ ks) next p n = absurd p
 
 -- words and symbols of the language
 pub marks_printed : (May : List ℕ → Type 0) (pieces : List Piece) (ks : List Kind) → raw pieces ≡ ks
-    → ArePlainMarks ks → ((rest : List ℕ) → May rest → Line pieces rest) → list_all is_plain (spelled pieces) ≡ true
+    → ArePlainMarks ks → ((rest : List ℕ) → May rest → AreInLine pieces rest)
+    → list_all is_plain (spelled pieces) ≡ true
     → Printed May (spelled pieces) ks
 marks_printed May pieces ks e p line plain = record {
   pieces = pieces;

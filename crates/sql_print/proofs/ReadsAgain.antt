@@ -5,7 +5,7 @@ use Rattle.sql_reader.specs.declared.tokens.Kind.{Kind}
 use Rattle.sql_reader.specs.declared.faults.Limit.{Limit}
 use Rattle.sql_reader.specs.declared.faults.Limit.TheVariants as limits
 use Rattle.sql_reader.specs.declared.syntax.Select.{Select}
-use Rattle.sql_reader.specs.Pieces.{Piece, Are, BeginsWith}
+use Rattle.sql_reader.specs.Pieces.{Piece, Are, BeginsWithPiece}
 use Rattle.sql_reader.specs.Lexing.{tokens_of, IsLexed}
 use Rattle.sql_reader.specs.Faults.{most, count_of, KeepsLimits, Spells}
 use Rattle.sql_reader.specs.Readable.{IsReadable}
@@ -20,7 +20,7 @@ use Rattle.sql_print.proofs.CanonicalTexts.{query_printed}
 
 -- ---- a printed text is lexed
 
-nothing_begins : (piece : Piece) (more : List ℕ) → BeginsWith [] piece more → ⊥
+nothing_begins : (piece : Piece) (more : List ℕ) → BeginsWithPiece [] piece more → ⊥
 nothing_begins piece more h = absurd (let k = shorter [] piece more h in omega (arith, k))
 
 printed_lexed : (text : List ℕ) (ks : List Kind) (p : Printed Safe text ks) → IsLexed text (tokens_of 0 p.pieces) []

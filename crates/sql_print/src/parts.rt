@@ -3,7 +3,8 @@
 ghost use Rattle.std.specs.Prelude.{◌≡◌, [], ◌∷◌, ◌++◌, OnOk};
 ghost use Rattle.std.specs.Fmt.{signed_decimal};
 ghost use Rattle.sql_reader.specs.Pieces.{doubled};
-ghost use Rattle.sql_print.specs.Canonical.{table_part, column_text, func_text, argument_text, expr_text, as_text, op_text, quoted_text, operand_text};
+ghost use Rattle.sql_print.specs.Canonical.{table_part, column_text, func_text, argument_text, expr_text, as_text};
+ghost use Rattle.sql_print.specs.Canonical.{op_text, quoted_text, operand_text};
 
 use orca_base::Text;
 use sql_reader::{ColRef, SelExpr, SelFunc, SelOp, SelOperand};

@@ -6,7 +6,8 @@ ghost use Rattle.sql_reader.specs.Faults.{Spells, IsReading};
 ghost use Rattle.sql_reader.specs.Readable.{IsReadable};
 ghost use Rattle.sql_print.specs.Unplaced.{unplaced};
 ghost use Rattle.std.specs.List.{flat_map};
-ghost use Rattle.sql_print.specs.Canonical.{column_text, item_text, table_text, pred_text, key_text, listed, clause, canonical_text};
+ghost use Rattle.sql_print.specs.Canonical.{column_text, item_text, table_text, pred_text, key_text, listed, clause};
+ghost use Rattle.sql_print.specs.Canonical.{canonical_text};
 
 use crate::parts::{put, put_as, put_column, put_expr, put_op, put_operand, put_text};
 use sql_reader::{ColRef, FromItem, SelItem, SelKey, SelPred, Select, readings};

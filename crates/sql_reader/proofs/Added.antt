@@ -7,7 +7,7 @@ use Rattle.sql_reader.specs.declared.tokens.Kind.{Kind}
 use Rattle.sql_reader.specs.declared.tokens.Kind.TheVariants as kinds
 use Rattle.sql_reader.specs.declared.tokens.Token.{Token}
 use Rattle.sql_reader.specs.Words.{function_of}
-use Rattle.sql_reader.specs.Pieces.{Piece, spelling, BeginsWith, Are}
+use Rattle.sql_reader.specs.Pieces.{Piece, spelling, BeginsWithPiece, Are}
 use Rattle.sql_reader.specs.Lexing.{function_kind, called, is_open, with_kind, kind_of, tokens_of}
 use Rattle.std.specs.Option.{option_map}
 use Rattle.sql_reader.specs.Lexing.{IsLexed}
@@ -106,7 +106,7 @@ pub none_yet : (text : List ℕ) → AreSoFar text [] text
 none_yet text = record { pieces = []; are = refl; tokens_are = refl }
 
 pub one_more : (text : List ℕ) (tokens : List Token) (rest : List ℕ) (piece : Piece) (more : List ℕ)
-    → AreSoFar text tokens rest → BeginsWith rest piece more
+    → AreSoFar text tokens rest → BeginsWithPiece rest piece more
     → AreSoFar text (extended tokens (length text - length rest) (kind_of piece)) more
 one_more text tokens rest piece more s h =
     let len = lengths s.pieces text rest s.are in

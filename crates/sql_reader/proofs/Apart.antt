@@ -2,7 +2,7 @@
 use Rattle.std.proofs.Common.{◌≡◌, ℕ, ◌≤◌, Bool, true, false, cond, eqb, List, [], Option, Some, None, ℤ, pos, refl}
 use Rattle.std.proofs.Common.{arith, eqb-true}
 use Rattle.std.specs.Prelude.{is_some}
-use Rattle.sql_reader.specs.Marks.{number_of}
+use Rattle.sql_reader.specs.Marks.{mark_number}
 use Rattle.sql_reader.specs.declared.tokens.Mark.{Mark}
 use Rattle.sql_reader.specs.declared.tokens.Mark.TheVariants as marks
 use Rattle.sql_reader.specs.declared.tokens.Function.{Function}
@@ -50,7 +50,7 @@ some_of (Some v) h = (v, refl)
 
 -- what kind a token has that says something
 abbrev pub HasMark : ℕ → Kind → Type 0
-HasMark n (kinds.Mark mark) = number_of mark ≡ n
+HasMark n (kinds.Mark mark) = mark_number mark ≡ n
 HasMark n (kinds.Name text) = ⊥
 HasMark n (kinds.Function function) = ⊥
 HasMark n (kinds.Integer number) = ⊥
@@ -61,16 +61,16 @@ chosen true at p h = refl
 chosen false at p h = absurd cc
 
 has_mark : (mark : Mark) (at p : ℕ) (kind : Kind) → cond (is_mark mark kind) (Some at) None ≡ Some p
-    → HasMark (number_of mark) kind
+    → HasMark (mark_number mark) kind
 has_mark mark at p (kinds.Mark other) h = let e =
-    eqb-true (number_of mark) (number_of other) (chosen (eqb (number_of mark) (number_of other)) at p h) in
+    eqb-true (mark_number mark) (mark_number other) (chosen (eqb (mark_number mark) (mark_number other)) at p h) in
     omega (arith, e)
 has_mark mark at p (kinds.Name text) h = absurd cc
 has_mark mark at p (kinds.Function function) h = absurd cc
 has_mark mark at p (kinds.Integer number) h = absurd cc
 has_mark mark at p (kinds.Quoted text) h = absurd cc
 
-pub marked : (mark : Mark) (t : Token) → AMark mark t → HasMark (number_of mark) t.kind
+pub marked : (mark : Mark) (t : Token) → AMark mark t → HasMark (mark_number mark) t.kind
 marked mark t h = has_mark mark t.at h.0 t.kind h.1
 
 two_marks : (m n : ℕ) (kind : Kind) → HasMark m kind → HasMark n kind → m ≡ n
@@ -80,8 +80,8 @@ two_marks m n (kinds.Function function) h k = absurd h
 two_marks m n (kinds.Integer number) h k = absurd h
 two_marks m n (kinds.Quoted text) h k = absurd h
 
-pub one_mark : (a b : Mark) (t : Token) → AMark a t → AMark b t → number_of a ≡ number_of b
-one_mark a b t h k = two_marks (number_of a) (number_of b) t.kind (marked a t h) (marked b t k)
+pub one_mark : (a b : Mark) (t : Token) → AMark a t → AMark b t → mark_number a ≡ mark_number b
+one_mark a b t h k = two_marks (mark_number a) (mark_number b) t.kind (marked a t h) (marked b t k)
 
 name_no_mark : (n : ℕ) (at : ℕ) (name : Name) (kind : Kind) → name_in at kind ≡ Some name → HasMark n kind → ⊥
 name_no_mark n at name (kinds.Mark mark) h k = absurd cc
@@ -91,7 +91,7 @@ name_no_mark n at name (kinds.Integer number) h k = k
 name_no_mark n at name (kinds.Quoted text) h k = k
 
 pub name_mark : (mark : Mark) (t : Token) → AName t → AMark mark t → ⊥
-name_mark mark t h k = name_no_mark (number_of mark) t.at h.0 t.kind h.1 (marked mark t k)
+name_mark mark t h k = name_no_mark (mark_number mark) t.at h.0 t.kind h.1 (marked mark t k)
 
 name_no_call : (at : ℕ) (name : Name) (function : Function) (kind : Kind) → name_in at kind ≡ Some name
     → function_in kind ≡ Some function → ⊥
@@ -138,7 +138,7 @@ pub integer_quoted : (t : Token) → AnInteger t → AText t → ⊥
 integer_quoted t h k = integer_no_quoted h.0 k.0 t.kind h.1 k.1
 
 -- the comparisons come last among the marks
-compares : (mark : Mark) (op : SelOp) → comparison mark ≡ Some op → 13 ≤ number_of mark
+compares : (mark : Mark) (op : SelOp) → comparison mark ≡ Some op → 13 ≤ mark_number mark
 compares marks.Equal op h = omega arith
 compares marks.NotEqual op h = omega arith
 compares marks.Less op h = omega arith
@@ -154,5 +154,5 @@ op_above n op (kinds.Function other) h k = absurd k
 op_above n op (kinds.Integer other) h k = absurd k
 op_above n op (kinds.Quoted text) h k = absurd k
 
-pub op_mark : (mark : Mark) (t : Token) → AnOp t → AMark mark t → 13 ≤ number_of mark
-op_mark mark t h k = op_above (number_of mark) h.0 t.kind h.1 (marked mark t k)
+pub op_mark : (mark : Mark) (t : Token) → AnOp t → AMark mark t → 13 ≤ mark_number mark
+op_mark mark t h k = op_above (mark_number mark) h.0 t.kind h.1 (marked mark t k)

@@ -2,7 +2,7 @@
 use Rattle.std.proofs.Common.{◌≡◌, List, [], ◌∷◌, ◌++◌, Option, Some, Ok, Err, refl, sym, ap, ◌∙◌, arith}
 use Rattle.sql_reader.specs.declared.tokens.Token.{Token}
 use Rattle.sql_reader.specs.declared.faults.Limit.{Limit}
-use Rattle.sql_reader.specs.Grammar.{Done}
+use Rattle.sql_reader.specs.Grammar.{AtEnd}
 use Rattle.sql_reader.specs.Steps.{Step, unexpected, too_many, done_at}
 use Rattle.sql_reader.proofs.Exact.{BeginAlike, BeginAlike-append, Blocked, GoesOn, Breaks, Answers, Again, Exact}
 use Rattle.sql_reader.proofs.Exact.{Never, NoToken}
@@ -12,7 +12,7 @@ abbrev pub Says : {V : Type 0} → (Token → Option V) → Token → Type 0
 Says {V} says t = (v : V) × (says t ≡ Some v)
 
 pub done_within : {X : Type 0} (value : X) (Over : Limit → X → Type 0) → ((w : Limit) → Over w value → ⊥)
-    → Exact (Done value) NoToken NoToken (Unit {0}) Over (done_at value)
+    → Exact (AtEnd value) NoToken NoToken (Unit {0}) Over (done_at value)
 done_within value Over within = record {
   first = λ t tokens x h. h;
   empty = λ x h. tt;
@@ -21,12 +21,12 @@ done_within value Over within = record {
   start = record { more = []; value = value; member = refl; within = within };
 }
   where
-    again : (front : List Token) (x : _) (rest : List Token) → Done value front x → Blocked NoToken rest
+    again : (front : List Token) (x : _) (rest : List Token) → AtEnd value front x → Blocked NoToken rest
         → Again Over x rest (done_at value (front ++ rest))
     again [] x rest h b = (sym h, refl)
     again (t ∷ front) x rest h b = absurd h
 
-pub done_exact : {X : Type 0} (value : X) → Exact (Done value) NoToken NoToken (Unit {0}) Never (done_at value)
+pub done_exact : {X : Type 0} (value : X) → Exact (AtEnd value) NoToken NoToken (Unit {0}) Never (done_at value)
 done_exact value = done_within value Never (λ w h. h)
 
 -- an answer for a language is one for a larger, where the readers agree on what begins alike

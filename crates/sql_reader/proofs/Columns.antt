@@ -1,6 +1,6 @@
 -- The productions up to an element of a list are read exactly.
 use Rattle.std.proofs.Common.{◌≡◌, ℕ, List, true, false, ◌⊎◌, inl, inr, refl, arith}
-use Rattle.sql_reader.specs.Marks.{number_of}
+use Rattle.sql_reader.specs.Marks.{mark_number}
 use Rattle.sql_reader.specs.declared.tokens.Mark.TheVariants as marks
 use Rattle.sql_reader.specs.declared.tokens.Function.{Function}
 use Rattle.sql_reader.specs.declared.tokens.Function.TheVariants as functions
@@ -10,7 +10,7 @@ use Rattle.sql_reader.specs.declared.syntax.SelExpr.{SelExpr}
 use Rattle.sql_reader.specs.declared.syntax.SelExpr.TheVariants as exprs
 use Rattle.sql_reader.specs.declared.syntax.SelOperand.TheVariants as operands
 use Rattle.sql_reader.specs.declared.syntax.SelOp.TheVariants as ops
-use Rattle.sql_reader.specs.Grammar.{Done, Then}
+use Rattle.sql_reader.specs.Grammar.{AtEnd, Then}
 use Rattle.sql_reader.specs.Steps.{Step, done_at, then_at}
 use Rattle.sql_reader.specs.Query.{plain_column, column_in, count_all, aggregate, plain_item, named_item, plain_table}
 use Rattle.sql_reader.specs.Query.{aliased_table, predicate, key, IsColumn, IsArgument, IsCall, IsExpr, IsOutput}
@@ -85,7 +85,7 @@ column_exact = as_exact
 
 -- a column, as something else
 as_column : {Z : Type 0} (f : ColRef → Z)
-    → Exact (Then IsColumn (λ column. Done (f column))) AName (AMark marks.Dot) ⊥ Never
+    → Exact (Then IsColumn (λ column. AtEnd (f column))) AName (AMark marks.Dot) ⊥ Never
     (then_at column_at (λ column. done_at (f column)))
 as_column f = as_exact (sequence column_exact (λ column. done_exact (f column)) (λ t m n. n))
     (λ t h. begun (AName t) ⊥ h) (λ t h. passed (AMark marks.Dot t) h) (λ h. h.0)
@@ -113,7 +113,7 @@ unfolding call_at
 call_exact function = as_exact
     (after (mark_token marks.Open) _ refl (λ (_ : ℕ).
     sequence (argument_exact function) (λ call. after (mark_token marks.Close) _ refl (λ (_ : ℕ). done_exact call))
-    (λ t h k. let e : number_of marks.Dot ≡ number_of marks.Close = one_mark marks.Dot marks.Close t h k in
+    (λ t h k. let e : mark_number marks.Dot ≡ mark_number marks.Close = one_mark marks.Dot marks.Close t h k in
     absurd (omega (arith, e)))))
     (λ t h. h) (λ t h. never_passed (AMark marks.Dot t) h) (λ h. h)
 
@@ -137,7 +137,7 @@ pub item_exact : Exact IsItem Begins (λ t. AMark marks.As t ⊎ AMark marks.Dot
 unfolding item_at
 item_exact = as_exact
     (sequence expr_exact output_exact
-    (λ t h k. let e : number_of marks.Dot ≡ number_of marks.As = one_mark marks.Dot marks.As t h k in
+    (λ t h k. let e : mark_number marks.Dot ≡ mark_number marks.As = one_mark marks.Dot marks.As t h k in
     absurd (omega (arith, e))))
     (λ t h. begun (Begins t) (AMark marks.As t) h) (λ t h. passed_or (AMark marks.As t) (AMark marks.Dot t) h)
     (λ h. h.0)
@@ -185,7 +185,7 @@ unfolding direction_at
 direction_exact column = as_exact
     (choice (λ (_ : ℕ). done_exact (key column false))
     (choice (λ (_ : ℕ). done_exact (key column true)) (done_exact (key column false)) (λ t v s k. k))
-    (λ t v s n. let e : number_of marks.Asc ≡ number_of marks.Desc =
+    (λ t v s n. let e : mark_number marks.Asc ≡ mark_number marks.Desc =
     one_mark marks.Asc marks.Desc t (v, s) (either_none (AMark marks.Desc t) n) in absurd (omega (arith, e))))
     (λ t h. three (AMark marks.Asc t) (AMark marks.Desc t) h)
     (λ t h. two_last (AMark marks.Desc t) (AMark marks.Asc t) h) (λ h. h)
@@ -201,7 +201,7 @@ key_exact = as_exact (sequence column_exact direction_exact dot_direction)
     (λ t h. begun (AName t) (Directs t) h) (λ t h. passed_or (Directs t) (AMark marks.Dot t) h) (λ h. h.0)
   where
     dot_direction : (t : Token) → AMark marks.Dot t → Directs t → ⊥
-    dot_direction t h (inl k) = let e : number_of marks.Dot ≡ number_of marks.Asc =
+    dot_direction t h (inl k) = let e : mark_number marks.Dot ≡ mark_number marks.Asc =
         one_mark marks.Dot marks.Asc t h k in absurd (omega (arith, e))
-    dot_direction t h (inr k) = let e : number_of marks.Dot ≡ number_of marks.Desc =
+    dot_direction t h (inr k) = let e : mark_number marks.Dot ≡ mark_number marks.Desc =
         one_mark marks.Dot marks.Desc t h k in absurd (omega (arith, e))

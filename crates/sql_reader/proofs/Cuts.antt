@@ -8,14 +8,15 @@ use Rattle.std.proofs.lemmas.Bool.Decides.{nat_tests}
 use Rattle.std.proofs.lemmas.List.{take-append-drop}
 use Rattle.orca_base.specs.Name.{begins_name, continues_name, has_name_form}
 use Rattle.sql_reader.specs.Bytes.{is_digit}
-use Rattle.sql_reader.specs.Pieces.{comment, name, integer, in_comment, spelling, number_from, EndsPiece, BeginsWith}
+use Rattle.sql_reader.specs.Pieces.{comment, name, integer, in_comment, spelling, number_from, EndsPiece}
+use Rattle.sql_reader.specs.Pieces.{BeginsWithPiece}
 use Rattle.sql_reader.specs.Cutting.{Cut, name_cut, begins_with, integer_cut, digits_cut, comment_cut, minus_cut}
 use Rattle.sql_reader.proofs.Scans.{front_passes, front_ends, taken_again, left_again}
 
 -- a found piece stands at the front
 abbrev pub Sound : List ℕ → Cut → Type 0
 Sound text None = Unit {0}
-Sound text (Some p) = BeginsWith text p.0 p.1
+Sound text (Some p) = BeginsWithPiece text p.0 p.1
 
 continues : (byte : ℕ) → begins_name byte ≡ true → continues_name byte ≡ true
 continues byte h = grind (arith, nat_tests)

@@ -7,7 +7,7 @@ use Rattle.sql_reader.specs.declared.tokens.Token.{Token}
 use Rattle.sql_reader.specs.declared.tokens.Mark.{Mark}
 use Rattle.sql_reader.specs.declared.faults.Limit.{Limit}
 use Rattle.sql_reader.specs.Tokens.{place_of}
-use Rattle.sql_reader.specs.Grammar.{Done, Then, Others, Elements}
+use Rattle.sql_reader.specs.Grammar.{AtEnd, Then, Others, Elements}
 use Rattle.sql_reader.specs.Steps.{Step, unexpected, too_many, done_at, then_at, ahead, branch_at, refused, elements_at}
 use Rattle.sql_reader.proofs.Exact.{BeginAlike, Blocked, GoesOn, Breaks, Overflows, Refuses, Answers, Again, Exact}
 use Rattle.sql_reader.proofs.Exact.{Never, NoToken, as_exact}
@@ -172,23 +172,23 @@ module _ {X : Type 0} (mark : Mark) (IsX : List Token → X → Type 0) (First M
 
     -- ---- room for more
 
-    longer : (room : ℕ) (x : X) (w : Limit) (xs : List X) (tokens : List Token) (z : List X) → Done (x ∷ xs) tokens z
+    longer : (room : ℕ) (x : X) (w : Limit) (xs : List X) (tokens : List Token) (z : List X) → AtEnd (x ∷ xs) tokens z
         → Above what room w xs → Above what (suc room) w z
     longer room x w xs [] z d h = rw d (h.0, omega (arith, h.1))
     longer room x w xs (t ∷ tokens) z d h = absurd d
 
-    shorter : (room : ℕ) (x : X) (w : Limit) (xs : List X) (tokens : List Token) (z : List X) → Done (x ∷ xs) tokens z
+    shorter : (room : ℕ) (x : X) (w : Limit) (xs : List X) (tokens : List Token) (z : List X) → AtEnd (x ∷ xs) tokens z
         → Above what (suc room) w z → Above what room w xs
     shorter room x w xs [] z d h = let k : Above what (suc room) w (x ∷ xs) = rw d at h in (k.0, omega (arith, k.1))
     shorter room x w xs (t ∷ tokens) z d h = absurd d
 
     cons_exact : (room : ℕ) (x : X)
         → Exact (Others mark IsX) Separates MoreOf (Unit {0}) (Above what room) (tail_at room)
-        → Exact (Then (Others mark IsX) (λ xs. Done (x ∷ xs))) Separates MoreOf (Unit {0}) (Above what (suc room))
+        → Exact (Then (Others mark IsX) (λ xs. AtEnd (x ∷ xs))) Separates MoreOf (Unit {0}) (Above what (suc room))
         (then_at (tail_at room) (λ xs. done_at (x ∷ xs)))
     cons_exact room x o = as_exact
         (both_exact (Others mark IsX) Separates MoreOf (Unit {0}) (Above what room) (tail_at room)
-        (λ xs. Done (x ∷ xs)) NoToken NoToken (Unit {0}) Never (λ xs. done_at (x ∷ xs)) (Above what (suc room)) o
+        (λ xs. AtEnd (x ∷ xs)) NoToken NoToken (Unit {0}) Never (λ xs. done_at (x ∷ xs)) (Above what (suc room)) o
         (λ xs. done_exact (x ∷ xs))
         (λ t m n. n) (λ w xs tokens z d h. longer room x w xs tokens z d h) (λ w z h. absurd h)
         (λ w xs tokens z d h. inl (shorter room x w xs tokens z d h)))
@@ -208,7 +208,7 @@ module _ {X : Type 0} (mark : Mark) (IsX : List Token → X → Type 0) (First M
         (elements_at mark starts read what (suc room))
     elements_from_others room o = as_exact
         (both_exact IsX First More ⊥ Never read
-        (λ x. Then (Others mark IsX) (λ xs. Done (x ∷ xs))) Separates MoreOf (Unit {0}) (Above what (suc room))
+        (λ x. Then (Others mark IsX) (λ xs. AtEnd (x ∷ xs))) Separates MoreOf (Unit {0}) (Above what (suc room))
         (λ x. then_at (tail_at room) (λ xs. done_at (x ∷ xs)))
         (Above what (suc room)) e (λ x. cons_exact room x o) clash (λ w x tokens z k h. absurd h) (λ w z h. h)
         (λ w x tokens z k h. inr h))

@@ -18,7 +18,7 @@ use Rattle.sql_reader.specs.declared.syntax.SelOperand.TheVariants as operands
 use Rattle.sql_reader.specs.declared.syntax.SelPred.{SelPred}
 use Rattle.sql_reader.specs.declared.syntax.SelKey.{SelKey}
 use Rattle.sql_reader.specs.Tokens.{place_of, name_in, name_of, integer_in, quoted_in, op_of}
-use Rattle.sql_reader.specs.Grammar.{Done, After, Then, Either}
+use Rattle.sql_reader.specs.Grammar.{AtEnd, After, Then, Either}
 use Rattle.sql_reader.specs.Query.{plain_column, column_in, aggregate, plain_item, named_item, plain_table}
 use Rattle.sql_reader.specs.Query.{aliased_table, key, IsColumn, IsArgument, IsCall, IsExpr, IsOutput}
 use Rattle.sql_reader.specs.Query.{IsItem, IsTable, IsOperand, IsPred, IsDirection, IsKey}
@@ -61,8 +61,8 @@ column_good [] c g h = absurd h
 column_good (t ∷ tokens) c g h = by tokens g.1 h.2
   where
     by : (ts : List Token) → AreGood ts
-        → Either (After (place_of marks.Dot) (λ _. After name_of (λ name. Done (column_in h.0 name))))
-        (Done (plain_column h.0)) ts c → IsSpellableColumn c
+        → Either (After (place_of marks.Dot) (λ _. After name_of (λ name. AtEnd (column_in h.0 name))))
+        (AtEnd (plain_column h.0)) ts c → IsSpellableColumn c
     by [] k (inl d) = absurd d
     by (u ∷ []) k (inl d) = absurd d.2
     by (u ∷ v ∷ []) k (inl d) =
@@ -72,13 +72,13 @@ column_good (t ∷ tokens) c g h = by tokens g.1 h.2
     by [] k (inr d) = subst IsSpellableColumn (sym d) (tt, name_good t.at t.kind h.0 g.0 h.1)
     by (u ∷ ts) k (inr d) = absurd d
 
-pub done_good : {X : Type 0} (IsGood : X → Type 0) (value x : X) (tokens : List Token) → Done value tokens x
+pub done_good : {X : Type 0} (IsGood : X → Type 0) (value x : X) (tokens : List Token) → AtEnd value tokens x
     → IsGood value → IsGood x
 done_good IsGood value x [] d g = subst IsGood (sym d) g
 done_good IsGood value x (t ∷ tokens) d g = absurd d
 
 as_column_good : {X : Type 0} (IsGood : X → Type 0) (f : ColRef → X) (tokens : List Token) (x : X)
-    → ((c : ColRef) → IsSpellableColumn c → IsGood (f c)) → AreGood tokens → Then IsColumn (λ c. Done (f c)) tokens x
+    → ((c : ColRef) → IsSpellableColumn c → IsGood (f c)) → AreGood tokens → Then IsColumn (λ c. AtEnd (f c)) tokens x
     → IsGood x
 as_column_good IsGood f tokens x into g h =
     let parts = rw h.whole at g in
@@ -98,7 +98,7 @@ argument_good functions.Min tokens e g h =
 argument_good functions.Max tokens e g h =
     as_column_good IsSpellableExpr (aggregate functions.Max) tokens e (λ c k. k) g h
 
-close_good : (value e : SelExpr) (tokens : List Token) → After (place_of marks.Close) (λ _. Done value) tokens e
+close_good : (value e : SelExpr) (tokens : List Token) → After (place_of marks.Close) (λ _. AtEnd value) tokens e
     → IsSpellableExpr value → IsSpellableExpr e
 close_good value e [] h g = absurd h
 close_good value e (t ∷ tokens) h g = done_good IsSpellableExpr value e tokens h.2 g
@@ -135,8 +135,8 @@ table_good [] x g h = absurd h
 table_good (t ∷ tokens) x g h = by tokens g.1 h.2
   where
     by : (ts : List Token) → AreGood ts
-        → Either (After (place_of marks.As) (λ _. After name_of (λ alias. Done (aliased_table h.0 alias))))
-        (Either (After name_of (λ alias. Done (aliased_table h.0 alias))) (Done (plain_table h.0))) ts x
+        → Either (After (place_of marks.As) (λ _. After name_of (λ alias. AtEnd (aliased_table h.0 alias))))
+        (Either (After name_of (λ alias. AtEnd (aliased_table h.0 alias))) (AtEnd (plain_table h.0))) ts x
         → IsSpellableTable x
     by [] k (inl d) = absurd d
     by (u ∷ []) k (inl d) = absurd d.2
@@ -162,7 +162,7 @@ pred_good tokens x g h =
     by h.back (good_back h.front h.back parts) h.second
   where
     by : (ts : List Token) → AreGood ts
-        → After op_of (λ op. Then IsOperand (λ right. Done (record { left = h.value; op = op; right = right }))) ts x
+        → After op_of (λ op. Then IsOperand (λ right. AtEnd (record { left = h.value; op = op; right = right }))) ts x
         → IsSpellablePred x
     by [] k d = absurd d
     by (u ∷ ts) k d =

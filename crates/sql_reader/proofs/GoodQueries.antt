@@ -8,7 +8,7 @@ use Rattle.sql_reader.specs.declared.syntax.SelItem.{SelItem}
 use Rattle.sql_reader.specs.declared.syntax.SelPred.{SelPred}
 use Rattle.sql_reader.specs.declared.syntax.SelKey.{SelKey}
 use Rattle.sql_reader.specs.declared.syntax.Select.{Select}
-use Rattle.sql_reader.specs.Grammar.{Done, Others, Elements}
+use Rattle.sql_reader.specs.Grammar.{AtEnd, Others, Elements}
 use Rattle.sql_reader.specs.Query.{select_of, IsColumn}
 use Rattle.sql_reader.specs.Query.{IsItem, IsTable, IsPred, IsKey, IsWhere, IsGroupBy}
 use Rattle.sql_reader.specs.Query.{IsOrderBy, IsEnd, IsBody, IsQuery}
@@ -46,7 +46,7 @@ module _ {X : Type 0} (IsX : List Token → X → Type 0) (IsGood : X → Type 0
   some_all [] g = absurd g
   some_all (x ∷ xs) g = g
 
-nothing_good : {X : Type 0} (IsGood : X → Type 0) (xs : List X) (tokens : List Token) → Done [] tokens xs
+nothing_good : {X : Type 0} (IsGood : X → Type 0) (xs : List X) (tokens : List Token) → AtEnd [] tokens xs
     → Each IsGood xs
 nothing_good IsGood xs tokens d = done_good (Each IsGood) [] xs tokens d tt
 

@@ -4,7 +4,7 @@ use Rattle.std.proofs.lemmas.List.{append-nil}
 use Rattle.sql_reader.specs.declared.tokens.Token.{Token}
 use Rattle.sql_reader.specs.declared.tokens.Mark.{Mark}
 use Rattle.sql_reader.specs.declared.faults.Limit.{Limit}
-use Rattle.sql_reader.specs.Grammar.{After, Done, Either, Elements, Others}
+use Rattle.sql_reader.specs.Grammar.{After, AtEnd, Either, Elements, Others}
 use Rattle.sql_reader.specs.Tokens.{place_of}
 
 -- more than so many
@@ -27,7 +27,7 @@ pub parts_of : {X : Type 0} (mark : Mark) (IsX : List Token → X → Type 0) (t
     → Elements mark IsX tokens ys → Parts mark IsX tokens ys
 parts_of mark IsX tokens ys h = go h.second.back h.second.second h.second.whole
   where
-    go : (end : List Token) → Done (h.value ∷ h.second.value) end ys → h.back ≡ h.second.front ++ end
+    go : (end : List Token) → AtEnd (h.value ∷ h.second.value) end ys → h.back ≡ h.second.front ++ end
         → Parts mark IsX tokens ys
     go [] d e = record {
       element = h.value;
@@ -58,7 +58,7 @@ elements_from mark IsX front back x xs h k = record {
 module _ {X : Type 0} (mark : Mark) (IsX : List Token → X → Type 0) where
   -- no element, or the mark and elements
   pub out_of_others : (ts : List Token) (xs : List X) → Others mark IsX ts xs
-      → Either (After (place_of mark) (λ _. Elements mark IsX)) (Done []) ts xs
+      → Either (After (place_of mark) (λ _. Elements mark IsX)) (AtEnd []) ts xs
   out_of_others [] [] h = inr refl
   out_of_others (t ∷ ts) [] h = absurd h
   out_of_others [] (x ∷ xs) h = absurd h
@@ -79,7 +79,7 @@ module _ {X : Type 0} (mark : Mark) (IsX : List Token → X → Type 0) where
 
   -- and these make the others
   pub into_others : (ts : List Token) (xs : List X)
-      → Either (After (place_of mark) (λ _. Elements mark IsX)) (Done []) ts xs → Others mark IsX ts xs
+      → Either (After (place_of mark) (λ _. Elements mark IsX)) (AtEnd []) ts xs → Others mark IsX ts xs
   into_others [] xs (inl h) = absurd h
   into_others (t ∷ ts) xs (inl h) = into_others_from t ts h.0 h.1 xs (parts_of mark IsX ts xs h.2)
   into_others [] xs (inr h) = subst (λ (zs : List X). Others mark IsX [] zs) (sym h) tt

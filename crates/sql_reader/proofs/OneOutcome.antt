@@ -9,7 +9,7 @@ use Rattle.sql_reader.specs.declared.faults.SqlFault.TheVariants as faults
 use Rattle.sql_reader.specs.declared.syntax.Select.{Select}
 use Rattle.sql_reader.specs.Lexing.{IsLexed}
 use Rattle.sql_reader.specs.Query.{IsQuery}
-use Rattle.orca_base.specs.Checked.{◌>>=◌, Gives}
+use Rattle.orca_base.specs.Checked.{◌>>=◌, Yields}
 use Rattle.sql_reader.specs.Steps.{Step, Stopped}
 use Rattle.sql_reader.specs.Reading.{all_read, query_at, parse_at}
 use Rattle.sql_reader.specs.Faults.{IsBefore, IsFirst, IsReading}
@@ -24,12 +24,12 @@ use Rattle.sql_reader.proofs.Outcomes.{Right, together}
 module _ (text : List ℕ) (tokens : List Token) (rest : List ℕ) (lexed : IsLexed text tokens rest)
     (short : length text ≤ 2 ^ 16) where
   -- an answer that is right, unless memory ran out
-  pub ok_right : (result due : Result Select SqlFault) → Gives faults.Memory due result
+  pub ok_right : (result due : Result Select SqlFault) → Yields faults.Memory due result
       → Right text tokens rest lexed short due → IfOk result (IsReading text)
   ok_right (Ok s) due e h = rw e at h
   ok_right (Err f) due e h = tt
 
-  pub err_right : (result due : Result Select SqlFault) → Gives faults.Memory due result
+  pub err_right : (result due : Result Select SqlFault) → Yields faults.Memory due result
       → Right text tokens rest lexed short due
       → IfErr result (λ f. f ≢ faults.Memory → IsFirst text f)
   err_right (Ok s) due e h = tt

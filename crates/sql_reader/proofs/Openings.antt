@@ -15,7 +15,7 @@ use Rattle.sql_reader.specs.declared.syntax.SelExpr.TheVariants as exprs
 use Rattle.sql_reader.specs.declared.syntax.SelOp.TheVariants as ops
 use Rattle.sql_reader.specs.declared.syntax.SelOperand.TheVariants as operands
 use Rattle.sql_reader.specs.Tokens.{name_of, called_of}
-use Rattle.sql_reader.specs.Grammar.{Done, Then}
+use Rattle.sql_reader.specs.Grammar.{AtEnd, Then}
 use Rattle.sql_reader.specs.Query.{plain_column, aggregate, plain_item, plain_table, predicate, key, IsColumn, IsCall}
 use Rattle.sql_reader.specs.Query.{IsArgument, IsItem, IsTable, IsPred, IsKey}
 use Rattle.sql_reader.specs.Reading.{starts_name, starts_item}
@@ -153,7 +153,7 @@ begins_item t = by (called_of t) refl
     by None e h =
         let n = some_of (name_of t) h in
         let column : ColRef = plain_column n.0 in
-        let expr : Then IsColumn (λ c. Done (exprs.Column c)) (t ∷ []) (exprs.Column column) =
+        let expr : Then IsColumn (λ c. AtEnd (exprs.Column c)) (t ∷ []) (exprs.Column column) =
         record {
           front = t ∷ [];
           back = [];

@@ -10,7 +10,7 @@ use Rattle.sql_reader.specs.declared.syntax.Select.{Select}
 use Rattle.sql_reader.specs.Query.{IsQuery}
 use Rattle.sql_reader.specs.Steps.{Step, unexpected, too_many}
 use Rattle.sql_reader.specs.Reading.{query_at}
-use Rattle.sql_reader.specs.Faults.{Exceeds, CanGoOn, IsFull, IsUnexpected, IsUnfinished, IsSurplus, IsBefore}
+use Rattle.sql_reader.specs.Faults.{Exceeds, CanGoOn, IsAtLimit, IsUnexpected, IsUnfinished, IsSurplus, IsBefore}
 use Rattle.sql_reader.proofs.Exact.{GoesOn, Refuses, Again}
 use Rattle.sql_reader.proofs.WholeQuery.{OverAny, over_exceeds, exceeds_over, query_exact}
 use Rattle.sql_reader.proofs.Prefixes.{Compared, same, shorter, longer, compared, before_last, Rising, below_high}
@@ -25,18 +25,19 @@ goes_through all front t mid more s e q =
 
 -- a query within the limits that begins with the front shows that it isn't full
 not_full : (front rest : List Token) (s : Select) (w : Limit) → IsQuery (front ++ rest) s
-    → ((v : Limit) → OverAny v s → ⊥) → IsFull w front → ⊥
+    → ((v : Limit) → OverAny v s → ⊥) → IsAtLimit w front → ⊥
 not_full front rest s w q within full = within w (exceeds_over w s (full rest s q))
 
 -- and so does one that begins with more
-still_goes : (all front m : List Token) (w : Limit) → all ≡ front ++ m → GoesOn IsQuery OverAny all → IsFull w front → ⊥
+still_goes : (all front m : List Token) (w : Limit) → all ≡ front ++ m → GoesOn IsQuery OverAny all → IsAtLimit w front
+    → ⊥
 still_goes all front m w e g full =
     let k : all ++ g.more ≡ front ++ (m ++ g.more) = rw e (append_assoc front m g.more) in
     not_full front (m ++ g.more) g.value w (rw k at g.member) g.within full
 
 -- a front before the last token isn't full
 early_not_full : (all last front : List Token) (t : Token) (mid : List Token) (w : Limit) → length last ≤ 1
-    → all ++ last ≡ front ++ t ∷ mid → GoesOn IsQuery OverAny all → IsFull w front → ⊥
+    → all ++ last ≡ front ++ t ∷ mid → GoesOn IsQuery OverAny all → IsAtLimit w front → ⊥
 early_not_full all [] front t mid w le e g full = still_goes all front (t ∷ mid) w (sym (append-nil all) ∙ e) g full
 early_not_full all (l ∷ []) front t mid w le e g full = let m = before_last all l front t mid e in
     still_goes all front m.0 w m.1 g full
@@ -63,7 +64,7 @@ refused_over w s (Err (too_many v rest)) f a = subst (λ (u : Limit). OverAny u 
 
 -- behind the last token all queries exceed the limit
 pub full_behind : (front : List Token) (w : Limit) → ((after : List Token) → Refuses w (query_at (front ++ after)))
-    → IsFull w front
+    → IsAtLimit w front
 full_behind front w full more s q =
     over_exceeds w s (refused_over w s (query_at (front ++ more)) (full more) (query_again (front ++ more) s q))
 

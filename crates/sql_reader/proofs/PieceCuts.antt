@@ -9,7 +9,7 @@ use Rattle.sql_reader.specs.declared.classes.Class.{Class}
 use Rattle.sql_reader.specs.declared.classes.Class.TheVariants as classes
 use Rattle.sql_reader.specs.Bytes.{is_digit, class_of}
 use Rattle.sql_reader.specs.Pieces.{Piece, blank, comment, name, integer, quoted, sign, doubled, spelling, Fits, Stands}
-use Rattle.sql_reader.specs.Pieces.{BeginsWith, Are, IsCut}
+use Rattle.sql_reader.specs.Pieces.{BeginsWithPiece, Are, IsCut}
 use Rattle.sql_reader.specs.Cutting.{Cut, cut_by, piece_cut}
 use Rattle.sql_reader.proofs.ByteClasses.{IsOf, class_says, blank_class, letter_class, digit_class, sign_class}
 use Rattle.sql_reader.proofs.Cuts.{Sound, name_sound, name_again, digits_sound, digits_again, minus_sound}
@@ -59,16 +59,16 @@ spelled_again (sign (b ∷ symbol)) rest f s =
     by_class b (symbol ++ rest) classes.Sign _ (sign_class b (symbol_begins b symbol f))
     (sign_again (b ∷ symbol) rest f s)
 
-pub piece_again : (text : List ℕ) (piece : Piece) (rest : List ℕ) → BeginsWith text piece rest
+pub piece_again : (text : List ℕ) (piece : Piece) (rest : List ℕ) → BeginsWithPiece text piece rest
     → piece_cut text ≡ Some (piece, rest)
 piece_again text piece rest h = ap piece_cut h.whole ∙ spelled_again piece rest h.fits h.stands
 
 pub found_stands : (text : List ℕ) (piece : Piece) (rest : List ℕ) → piece_cut text ≡ Some (piece, rest)
-    → BeginsWith text piece rest
+    → BeginsWithPiece text piece rest
 found_stands text piece rest e = subst (λ (cut : Cut). Sound text cut) e (piece_sound text)
 
 pub none_stands : (text : List ℕ) → piece_cut text ≡ None → (piece : Piece) (rest : List ℕ)
-    → BeginsWith text piece rest → ⊥
+    → BeginsWithPiece text piece rest → ⊥
 none_stands text e piece rest h = let k = piece_again text piece rest h in absurd cc
 
 -- ---- a text has one cut
@@ -85,13 +85,14 @@ spelled_some (sign []) f = absurd cc
 spelled_some (sign (b ∷ symbol)) f = omega arith
 
 -- a piece takes bytes
-pub shorter : (text : List ℕ) (piece : Piece) (rest : List ℕ) → BeginsWith text piece rest → length rest < length text
+pub shorter : (text : List ℕ) (piece : Piece) (rest : List ℕ) → BeginsWithPiece text piece rest
+    → length rest < length text
 shorter text piece rest h = let k = spelled_some piece h.fits in
     omega (arith, k, ap length h.whole, length-append (spelling piece) rest)
 
 -- one piece more
 pub are_more : (pieces : List Piece) (text mid : List ℕ) (piece : Piece) (rest : List ℕ) → Are pieces text mid
-    → BeginsWith mid piece rest → Are (pieces ++ piece ∷ []) text rest
+    → BeginsWithPiece mid piece rest → Are (pieces ++ piece ∷ []) text rest
 are_more [] text mid piece rest a h = (rest, rw a h, refl)
 are_more (p ∷ pieces) text mid piece rest a h = (a.0, a.1, are_more pieces a.0 mid piece rest a.2 h)
 
@@ -102,9 +103,9 @@ pub same_pieces : (text : List ℕ) (ps qs : List Piece) (r s : List ℕ) → Is
     → (ps ≡ qs) × (r ≡ s)
 same_pieces text [] [] r s c d = (refl, sym c.are ∙ d.are)
 same_pieces text [] (q ∷ qs) r s c d =
-    absurd (c.no_more q d.are.0 (subst (λ (t : List ℕ). BeginsWith t q d.are.0) c.are d.are.1))
+    absurd (c.no_more q d.are.0 (subst (λ (t : List ℕ). BeginsWithPiece t q d.are.0) c.are d.are.1))
 same_pieces text (p ∷ ps) [] r s c d =
-    absurd (d.no_more p c.are.0 (subst (λ (t : List ℕ). BeginsWith t p c.are.0) d.are c.are.1))
+    absurd (d.no_more p c.are.0 (subst (λ (t : List ℕ). BeginsWithPiece t p c.are.0) d.are c.are.1))
 same_pieces text (p ∷ ps) (q ∷ qs) r s c d =
     let e = same_found (p, c.are.0) (q, d.are.0) (piece_cut text) (piece_again text p c.are.0 c.are.1)
     (piece_again text q d.are.0 d.are.1) in

@@ -1,6 +1,6 @@
 -- The clauses of a query, and a whole query, are read exactly.
 use Rattle.std.proofs.Common.{◌≡◌, ℕ, ◌<◌, ◌≤◌, [], ◌⊎◌, inl, inr, refl, arith}
-use Rattle.sql_reader.specs.Marks.{number_of}
+use Rattle.sql_reader.specs.Marks.{mark_number}
 use Rattle.sql_reader.specs.declared.tokens.Mark.{Mark}
 use Rattle.sql_reader.specs.declared.tokens.Mark.TheVariants as marks
 use Rattle.sql_reader.specs.declared.tokens.Token.{Token}
@@ -21,7 +21,7 @@ use Rattle.sql_reader.proofs.Columns.{Begins, Directs, column_exact, item_exact,
 use Rattle.sql_reader.proofs.Openings.{opens_name, opens_item, begins_column, begins_table, begins_key, begins_pred}
 use Rattle.sql_reader.proofs.Openings.{begins_item}
 
-apart : (a b : Mark) (t : Token) → AMark a t → AMark b t → (number_of a ≡ number_of b → ⊥) → ⊥
+apart : (a b : Mark) (t : Token) → AMark a t → AMark b t → (mark_number a ≡ mark_number b → ⊥) → ⊥
 apart a b t h k differ = differ (one_mark a b t h k)
 
 -- ---- the five lists
@@ -75,11 +75,11 @@ keys_exact = elements_exact marks.Comma IsKey _ _ key_at starts_name limits.Orde
 
 -- a name, or a mark below the number
 unfoldable pub Inside : ℕ → Token → Type 0
-Inside n t = AName t ⊎ ((m : Mark) × AMark m t × (number_of m < n))
+Inside n t = AName t ⊎ ((m : Mark) × AMark m t × (mark_number m < n))
 
 -- a mark from the number on
 unfoldable pub Behind : ℕ → Token → Type 0
-Behind n t = (m : Mark) × AMark m t × (n ≤ number_of m)
+Behind n t = (m : Mark) × AMark m t × (n ≤ mark_number m)
 
 pub outside : (n : ℕ) (t : Token) → Inside n t → Behind n t → ⊥
 unfolding Inside Behind
@@ -98,7 +98,7 @@ where_exact = as_exact
     begun t (inr h) = absurd h
 
     inside : (t : Token) → (AMark marks.And t ⊎ AMark marks.Dot t) ⊎ (NoToken t ⊎ (Unit {0} × AMark marks.Where t))
-        → AName t ⊎ ((m : Mark) × AMark m t × (number_of m < 20))
+        → AName t ⊎ ((m : Mark) × AMark m t × (mark_number m < 20))
     inside t (inl (inl h)) = inr (marks.And, h, omega arith)
     inside t (inl (inr h)) = inr (marks.Dot, h, omega arith)
     inside t (inr (inl h)) = absurd h
@@ -116,7 +116,7 @@ group_by_exact = as_exact
     begun t (inr h) = absurd h
 
     inside : (t : Token) → (AMark marks.Comma t ⊎ AMark marks.Dot t) ⊎ (NoToken t ⊎ (Unit {0} × AMark marks.Group t))
-        → AName t ⊎ ((m : Mark) × AMark m t × (number_of m < 21))
+        → AName t ⊎ ((m : Mark) × AMark m t × (mark_number m < 21))
     inside t (inl (inl h)) = inr (marks.Comma, h, omega arith)
     inside t (inl (inr h)) = inr (marks.Dot, h, omega arith)
     inside t (inr (inl h)) = absurd h
@@ -134,7 +134,7 @@ order_by_exact = as_exact
     begun t (inr h) = absurd h
 
     inside : (t : Token) → (AMark marks.Comma t ⊎ (Directs t ⊎ AMark marks.Dot t))
-        ⊎ (NoToken t ⊎ (Unit {0} × AMark marks.Order t)) → AName t ⊎ ((m : Mark) × AMark m t × (number_of m < 22))
+        ⊎ (NoToken t ⊎ (Unit {0} × AMark marks.Order t)) → AName t ⊎ ((m : Mark) × AMark m t × (mark_number m < 22))
     inside t (inl (inl h)) = inr (marks.Comma, h, omega arith)
     inside t (inl (inr (inl (inl h)))) = inr (marks.Asc, h, omega arith)
     inside t (inl (inr (inl (inr h)))) = inr (marks.Desc, h, omega arith)
@@ -148,7 +148,7 @@ unfolding end_at Behind
 end_exact select = as_exact (choice (λ (_ : ℕ). done_exact select) (done_exact select) (λ t v s k. k)) begun inside
     (λ u. u)
   where
-    begun : (t : Token) → AMark marks.Semicolon t ⊎ NoToken t → (m : Mark) × AMark m t × (22 ≤ number_of m)
+    begun : (t : Token) → AMark marks.Semicolon t ⊎ NoToken t → (m : Mark) × AMark m t × (22 ≤ mark_number m)
     begun t (inl h) = (marks.Semicolon, h, omega arith)
     begun t (inr h) = absurd h
 

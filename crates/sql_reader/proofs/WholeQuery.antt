@@ -1,6 +1,6 @@
 -- A whole query is read exactly.
 use Rattle.std.proofs.Common.{◌≡◌, ℕ, ◌<◌, ◌≤◌, List, [], ◌∷◌, length, ◌⊎◌, inl, inr, refl, sym, ap, subst, arith}
-use Rattle.sql_reader.specs.Marks.{number_of}
+use Rattle.sql_reader.specs.Marks.{mark_number}
 use Rattle.sql_reader.specs.declared.tokens.Mark.{Mark}
 use Rattle.sql_reader.specs.declared.tokens.Mark.TheVariants as marks
 use Rattle.sql_reader.specs.declared.tokens.Token.{Token}
@@ -89,8 +89,8 @@ module _ (items : List SelItem) where
             over_order (λ w z h. absurd h) (λ w x tokens z k h. inl (order_over w x tokens z k h)))
             begun (λ t h. tt) (λ h. tt)
           where
-            begun : (t : Token) → AMark marks.Order t ⊎ (Unit {0} × ((m : Mark) × AMark m t × (22 ≤ number_of m)))
-                → (m : Mark) × AMark m t × (21 ≤ number_of m)
+            begun : (t : Token) → AMark marks.Order t ⊎ (Unit {0} × ((m : Mark) × AMark m t × (22 ≤ mark_number m)))
+                → (m : Mark) × AMark m t × (21 ≤ mark_number m)
             begun t (inl h) = (marks.Order, h, omega arith)
             begun t (inr h) = (h.1.0, h.1.1, omega (arith, h.1.2))
 
@@ -123,8 +123,8 @@ module _ (items : List SelItem) where
           group_by_exact from_order_exact (outside 21) over_group (λ w z h. inr h) group_over)
           begun (λ t h. tt) (λ h. tt)
         where
-          begun : (t : Token) → AMark marks.Group t ⊎ (Unit {0} × ((m : Mark) × AMark m t × (21 ≤ number_of m)))
-              → (m : Mark) × AMark m t × (20 ≤ number_of m)
+          begun : (t : Token) → AMark marks.Group t ⊎ (Unit {0} × ((m : Mark) × AMark m t × (21 ≤ mark_number m)))
+              → (m : Mark) × AMark m t × (20 ≤ mark_number m)
           begun t (inl h) = (marks.Group, h, omega arith)
           begun t (inr h) = (h.1.0, h.1.1, omega (arith, h.1.2))
 
@@ -158,8 +158,8 @@ module _ (items : List SelItem) where
         where_exact from_group_exact (outside 20) over_where (λ w z h. inr h) where_over)
         begun (λ t h. tt) (λ h. tt)
       where
-        begun : (t : Token) → AMark marks.Where t ⊎ (Unit {0} × ((m : Mark) × AMark m t × (20 ≤ number_of m)))
-            → (m : Mark) × AMark m t × (19 ≤ number_of m)
+        begun : (t : Token) → AMark marks.Where t ⊎ (Unit {0} × ((m : Mark) × AMark m t × (20 ≤ mark_number m)))
+            → (m : Mark) × AMark m t × (19 ≤ mark_number m)
         begun t (inl h) = (marks.Where, h, omega arith)
         begun t (inr h) = (h.1.0, h.1.1, omega (arith, h.1.2))
 

@@ -45,8 +45,8 @@ abbrev pub CanGoOn : List Token → Type 0
 CanGoOn front = (more : List Token) × (select : Select) × IsQuery (front ++ more) select
 
 -- all queries that begin so exceed the limit: what comes next begins an element too many
-abbrev pub IsFull : Limit → List Token → Type 0
-IsFull what front = (more : List Token) (select : Select) → IsQuery (front ++ more) select → Exceeds what select
+abbrev pub IsAtLimit : Limit → List Token → Type 0
+IsAtLimit what front = (more : List Token) (select : Select) → IsQuery (front ++ more) select → Exceeds what select
 
 -- behind the front comes this token, and at this place
 abbrev pub Follows : List Token → List Token → Token → ℕ → Type 0
@@ -63,7 +63,7 @@ IsUnfinished tokens = (select : Select) → IsQuery tokens select → ⊥
 
 -- an element over its limit begins at the place
 abbrev pub IsSurplus : Limit → List Token → ℕ → Type 0
-IsSurplus what tokens at = (front : List Token) × (token : Token) × Follows tokens front token at × IsFull what front
+IsSurplus what tokens at = (front : List Token) × (token : Token) × Follows tokens front token at × IsAtLimit what front
 
 -- the byte at the place is so
 abbrev pub HasByte : List ℕ → ℕ → (ℕ → Type 0) → Type 0

@@ -5,9 +5,9 @@ use Rattle.sql_reader.specs.declared.tokens.Mark.{Mark}
 use Rattle.sql_reader.specs.Tokens.{place_of}
 
 -- no token, and this value
-abbrev pub Done : {X : Type 0} → X → List Token → X → Type 0
-Done value [] x = x ≡ value
-Done value (token ∷ tokens) x = ⊥
+abbrev pub AtEnd : {X : Type 0} → X → List Token → X → Type 0
+AtEnd value [] x = x ≡ value
+AtEnd value (token ∷ tokens) x = ⊥
 
 -- a token that says something, and then what may follow what it says
 abbrev pub After : {V X : Type 0} → (Token → Option V) → (V → List Token → X → Type 0) → List Token → X → Type 0
@@ -39,4 +39,4 @@ Others mark IsX (token ∷ tokens) (x ∷ xs) =
 
 -- one element or more, with the mark between
 abbrev pub Elements : {X : Type 0} → Mark → (List Token → X → Type 0) → List Token → List X → Type 0
-Elements mark IsX = Then IsX (λ x. Then (Others mark IsX) (λ xs. Done (x ∷ xs)))
+Elements mark IsX = Then IsX (λ x. Then (Others mark IsX) (λ xs. AtEnd (x ∷ xs)))

@@ -74,7 +74,7 @@ Stands (quoted text) rest = EndsPiece is_quote rest
 Stands (sign symbol) rest = EndsPiece (λ byte. is_some (symbol_of (symbol ++ byte ∷ []))) rest
 
 -- the bytes begin with the piece, and this is the rest
-pub record BeginsWith (bytes : List ℕ) (piece : Piece) (rest : List ℕ) : Type 0 where
+pub record BeginsWithPiece (bytes : List ℕ) (piece : Piece) (rest : List ℕ) : Type 0 where
   pub fits : Fits piece
   pub stands : Stands piece rest
   pub whole : bytes ≡ spelling piece ++ rest
@@ -82,9 +82,9 @@ pub record BeginsWith (bytes : List ℕ) (piece : Piece) (rest : List ℕ) : Typ
 -- the bytes are these pieces, one after the other, and then the rest
 abbrev pub Are : List Piece → List ℕ → List ℕ → Type 0
 Are [] bytes rest = bytes ≡ rest
-Are (piece ∷ pieces) bytes rest = (more : List ℕ) × BeginsWith bytes piece more × Are pieces more rest
+Are (piece ∷ pieces) bytes rest = (more : List ℕ) × BeginsWithPiece bytes piece more × Are pieces more rest
 
 -- the text is these pieces, up to a rest at which no piece begins
 pub record IsCut (text : List ℕ) (pieces : List Piece) (rest : List ℕ) : Type 0 where
   pub are : Are pieces text rest
-  pub no_more : (piece : Piece) (more : List ℕ) → BeginsWith rest piece more → ⊥
+  pub no_more : (piece : Piece) (more : List ℕ) → BeginsWithPiece rest piece more → ⊥

@@ -9,11 +9,11 @@ use Rattle.sql_reader.specs.declared.tokens.Token.{Token}
 use Rattle.sql_reader.specs.declared.tokens.Name.{Name}
 use Rattle.sql_reader.specs.declared.syntax.SelOp.{SelOp}
 use Rattle.sql_reader.specs.declared.syntax.SelOp.TheVariants as ops
-use Rattle.sql_reader.specs.Marks.{number_of}
+use Rattle.sql_reader.specs.Marks.{mark_number}
 
 -- the token is this mark
 abbrev pub is_mark : Mark → Kind → Bool
-is_mark mark (kinds.Mark other) = number_of mark == number_of other
+is_mark mark (kinds.Mark other) = mark_number mark == mark_number other
 is_mark mark (kinds.Name text) = false
 is_mark mark (kinds.Function function) = false
 is_mark mark (kinds.Integer number) = false

@@ -8,7 +8,7 @@ ghost use Rattle.sql_reader.specs.Steps.{Stopped};
 ghost use Rattle.sql_reader.specs.Reading.{parse_at};
 ghost use Rattle.sql_reader.specs.Doing.{Fails};
 ghost use Rattle.sql_reader.specs.Faults.{place, IsFirst, KeepsLimits, Spells, IsReading};
-ghost use Rattle.orca_base.specs.Checked.{Gives};
+ghost use Rattle.orca_base.specs.Checked.{Yields};
 ghost use Rattle.sql_reader.specs.Readable.{IsReadable};
 ghost use Rattle.sql_reader.specs.Spellable.{IsPlain};
 ghost use Rattle.sql_reader.specs.Outcome.{bad_byte, first_bad, stuck_at, sooner, earlier, accepted, outcome};
@@ -123,7 +123,7 @@ fn refusal(
     end: u32,
 ) -> Result<Select, SqlFault>
     ensures { (parsed : Result Select Stopped) → Fails parsed stop tokens.now
-        → Gives SqlFault.Memory (outcome before parsed end) result }
+        → Yields SqlFault.Memory (outcome before parsed end) result }
 {
     let at = tokens.place(end);
     match stop {
@@ -150,7 +150,7 @@ fn answer(
     mut tokens: TokenStream,
     end: u32,
 ) -> Result<Select, SqlFault>
-    ensures { Gives SqlFault.Memory (outcome before (parse_at tokens) end) result }
+    ensures { Yields SqlFault.Memory (outcome before (parse_at tokens) end) result }
 {
     let answer = match parse(alloc, &mut tokens) {
         Ok(select) => accepted(before, select),

@@ -1,7 +1,7 @@
 //! Tokens.
 
 ghost use Rattle.std.specs.Prelude.{◌≡◌};
-ghost use Rattle.sql_reader.specs.Marks.{number_of};
+ghost use Rattle.sql_reader.specs.Marks.{mark_number};
 
 use orca_base::Text;
 
@@ -69,7 +69,7 @@ pub struct Name {
 impl Mark {
     /// Tells marks apart.
     pub fn number(self) -> u8
-        ensures { result ≡ number_of self }
+        ensures { result ≡ mark_number self }
     {
         match self {
             Mark::Select => 0,

@@ -1,7 +1,7 @@
 -- What was collected of a query doesn't depend on which rules are off in it.
 use Rattle.std.proofs.Common.{◌≡◌, ℕ, List, slice_index_or}
 use Rattle.query_core.specs.Results.{AreOptions}
-use Rattle.query_core.specs.Keys.{IsKey, Names}
+use Rattle.query_core.specs.Keys.{IsKey, NamesGroup}
 use Rattle.query_core.specs.Expressions.{FallsInto, HasLogical, HasPhysical}
 use Rattle.query_core.specs.Expressions.{HasShape, IsCandidate, IsCandidateOf, IsJoin}
 use Rattle.query_core.specs.Expressions.{expr_of, implements, access, HasAccess}
@@ -36,8 +36,8 @@ with q o v = record q { options = o; options_valid = v }
 
 -- ---- groups
 
-names_with : (q : Query) (o : Options) (v : AreOptions o) (key : Key) (group : KeyParts) → Names q key group
-    → Names (with q o v) key group
+names_with : (q : Query) (o : Options) (v : AreOptions o) (key : Key) (group : KeyParts) → NamesGroup q key group
+    → NamesGroup (with q o v) key group
 names_with q o v key group h = record { number = h.number; known = h.known }
 
 key_with : (q : Query) (o : Options) (v : AreOptions o) (key : Key) → IsKey q key → IsKey (with q o v) key

@@ -1,5 +1,5 @@
 //! The stages that have run so far, none of which was the last.
-ghost use Rattle.std.specs.Prelude.{◌≡◌, ◌≤◌, ◌↔◌, [], ℕ, List as Listed, IfOk, OnOk, IsTrue, length};
+ghost use Rattle.std.specs.Prelude.{◌≡◌, ◌≤◌, ◌↔◌, [], ℕ, List as AnyList, IfOk, OnOk, IsTrue, length};
 ghost use Rattle.query_core.specs.declared.query.Query.{Query};
 ghost use Rattle.plan_space.specs.Nodes.{Tree};
 ghost use Rattle.plan_space.specs.Least.{IsLess};
@@ -77,7 +77,7 @@ impl SoFar {
 
     /// The answer where none of the stages was the last but for being the last one there is.
     pub fn end(self) -> StagedRun
-        ensures { (q : Query) (capacity : ℕ) (stages : Listed AnyStage) → 1 ≤ length stages →
+        ensures { (q : Query) (capacity : ℕ) (stages : AnyList AnyStage) → 1 ≤ length stages →
             HaveRun q capacity stages self.ran self.least → IsStagedRun q capacity stages result }
     {
         let SoFar { ran, least } = self;

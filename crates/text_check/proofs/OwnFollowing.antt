@@ -15,8 +15,8 @@ use Rattle.plan_tree.specs.Spells.{Spells}
 use Rattle.plan_tree.specs.declared.node.Node.{Node}
 use Rattle.plan_tree.specs.declared.plan.Plan.{Plan}
 use Rattle.plan_tree.specs.declared.plan.Plan.TheVariants.{Leaf, Over', Two'}
-use Rattle.plan_tree.specs.declared.seen.Below.{Below}
-use Rattle.plan_tree.specs.declared.seen.Below.TheVariants as below
+use Rattle.plan_tree.specs.declared.seen.Kids.{Kids}
+use Rattle.plan_tree.specs.declared.seen.Kids.TheVariants as below
 use Rattle.plan_check.specs.Nodes.{IsKindOf}
 use Rattle.plan_reading.specs.Outline.{IsPlanTree}
 use Rattle.text_check.specs.OwnLines.{own_line, own_lines, IsSeenOf, IsSeenOver, AddsLine, AddsLines}
@@ -88,7 +88,8 @@ module _ (q : Query) where
 
   -- ---- the line of a node, behind those of the plans below
 
-  node_behind : (node : Node) (seen : Below) (kind : NodeKind) (kids : List Kid) (before middle rest after : List OwnLine)
+  node_behind : (node : Node) (seen : Kids) (kind : NodeKind) (kids : List Kid)
+      (before middle rest after : List OwnLine)
       → AddsLine q node seen middle after → kids_seen seen ≡ kids → IsNode node kind → IsKindOf q kind → HaveGroups q seen
       → middle ≡ before ++ reverse rest → after ≡ before ++ reverse (own_line q kind kids ∷ rest)
   node_behind node seen kind kids before middle rest after adds sees is of_query groups goes =

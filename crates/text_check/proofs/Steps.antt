@@ -7,7 +7,7 @@ use Rattle.std.proofs.lemmas.Bool.{cases_lt}
 use Rattle.std.proofs.lemmas.List.{append-nil, reverse-append}
 use Rattle.std.proofs.lemmas.List.Elements.{All-nil, All-cons}
 use Rattle.query_core.specs.Expressions.{IsCandidate, IsPacked, expr_of}
-use Rattle.query_core.specs.Keys.{IsGroup, IsInRange}
+use Rattle.query_core.specs.Keys.{IsGroup, IsGroupInRange}
 use Rattle.query_core.specs.declared.expressions.ExprParts.{ExprParts}
 use Rattle.query_core.specs.declared.query.Query.{Query}
 use Rattle.query_core.specs.declared.words.KeyParts.{KeyParts}
@@ -18,7 +18,7 @@ use Rattle.plan_space.specs.declared.nodes.Enforcer.{Enforcer}
 use Rattle.plan_space.specs.declared.nodes.Enforcer.TheVariants as enforcers
 use Rattle.plan_space.specs.declared.nodes.NodeKind.{NodeKind}
 use Rattle.plan_space.specs.declared.nodes.NodeKind.TheVariants as nodes
-use Rattle.plan_tree.specs.Nodes.{EnforcerInRange, IsInRange as IsNodeInRange}
+use Rattle.plan_tree.specs.Nodes.{EnforcerInRange, IsNodeInRange}
 use Rattle.plan_tree.specs.Spells.{Spells}
 use Rattle.plan_check.specs.Nodes.{IsEnforcerOf, IsKindOf}
 use Rattle.plan_reading.specs.Formed.{AreInPlace, Follows}
@@ -31,8 +31,8 @@ use Rattle.text_check.specs.Blocks.{Fits, LineFits, EndsBlock, tails, AreLinesOf
 use Rattle.text_check.specs.Grown.{StandsOver, AreGrown, IsOver, AreDeeper, EndsAt, AreOf, IsTaken}
 use Rattle.text_check.specs.Grown.{HasMode, HaveRanges, kids_list, seen_of}
 use Rattle.text_check.specs.declared.kids.Grown.{Grown}
-use Rattle.text_check.specs.declared.kids.Kids.{Kids}
-use Rattle.text_check.specs.declared.kids.Kids.TheVariants as kids
+use Rattle.text_check.specs.declared.kids.TakenKids.{TakenKids}
+use Rattle.text_check.specs.declared.kids.TakenKids.TheVariants as kids
 use Rattle.text_check.proofs.LineBlocks.{IsForest, first_level, forest_of, grown_trees, line_fits, line_stands, none_fits, plan_first}
 use Rattle.text_check.proofs.Trees.{kids_at, trees_range}
 
@@ -56,7 +56,7 @@ module _ (q : Query) (few_lists : length (lists_of q) ≤ 60) (few_orders : leng
   node_range packed (nodes.Enforcer e) is few = enforcer_range e is
 
 -- a node stands over two plans at most
-pub kids_few : (taken : Kids) → length (kids_list taken) ≤ 2
+pub kids_few : (taken : TakenKids) → length (kids_list taken) ≤ 2
 kids_few kids.Nothing = omega arith
 kids_few (kids.One only) = omega arith
 kids_few (kids.Two left right) = omega arith
@@ -77,7 +77,7 @@ seen_is q (g ∷ gs) [] are = absurd are
 seen_is q (g ∷ gs) (t ∷ ts) are =
     ap (λ k. k ∷ seen_of gs) are.0.seen ∙ ap (λ ks. kid_of q t ∷ ks) (seen_is q gs ts are.1)
 
-pub seen_range : (q : Query) → ((g : KeyParts) → IsGroup q g → IsInRange g) → (gs : List Grown) (ts : List Tree)
+pub seen_range : (q : Query) → ((g : KeyParts) → IsGroup q g → IsGroupInRange g) → (gs : List Grown) (ts : List Tree)
     → AreGrown q gs ts → HaveRanges (seen_of gs)
 seen_range q range gs ts are =
     subst HaveRanges (sym (seen_is q gs ts are)) (trees_range q range ts (grown_trees q gs ts are))
@@ -133,7 +133,8 @@ module _ (q : Query) (one : OutlinesAreOne q) (lines : List NodeLine)
       record { parts = all; form = behind.1.is_line.form; start = next_start q line.level done behind.2 }
 
   -- the plans below the line
-  pub forest_at : (before done : List NodeLine) (line : NodeLine) (gs after : List Grown) (taken : Kids) → IsAt before line done
+  pub forest_at : (before done : List NodeLine) (line : NodeLine) (gs after : List Grown) (taken : TakenKids)
+      → IsAt before line done
       → AreOf q gs done → IsTaken line.level gs after (Some taken) → IsForest q line.level (kids_list taken) after done
   forest_at before done line gs after taken at are is =
       forest_of q line.level (kids_list taken) after done is.1 is.2 at.start
@@ -171,7 +172,8 @@ module _ (q : Query) (one : OutlinesAreOne q) (lines : List NodeLine)
       }
 
   -- so it is where its node stands over none of them
-  pub misfit_over : (before done : List NodeLine) (line : NodeLine) (gs after : List Grown) (taken : Kids) (told : ℕ)
+  pub misfit_over : (before done : List NodeLine) (line : NodeLine) (gs after : List Grown) (taken : TakenKids)
+      (told : ℕ)
       → (at : IsAt before line done) → (are : AreOf q gs done) → (is : IsTaken line.level gs after (Some taken))
       → All (LineFits q) (tails done)
       → ((t : Tree) → StandsOver q line (forest_at before done line gs after taken at are is).trees t → ⊥)
@@ -205,7 +207,8 @@ module _ (q : Query) (one : OutlinesAreOne q) (lines : List NodeLine)
       (none_fits q one line (a ∷ b ∷ c ∷ more.0) more.1 done f (omega arith)) place
 
   -- or else its plan comes first
-  pub made_next : (before done : List NodeLine) (line : NodeLine) (gs : List Grown) (after items : List Grown) (taken : Kids)
+  pub made_next : (before done : List NodeLine) (line : NodeLine) (gs : List Grown) (after items : List Grown)
+      (taken : TakenKids)
       (g : Grown) → (at : IsAt before line done) → (are : AreOf q gs done)
       → (is : IsTaken line.level gs (reverse after) (Some taken)) → All (LineFits q) (tails done)
       → IsOver q line (forest_at before done line gs (reverse after) taken at are is).trees g → items ≡ after ++ g ∷ []

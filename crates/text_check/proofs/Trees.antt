@@ -1,7 +1,7 @@
 -- A plan by the plans below its root.
 use Rattle.std.proofs.Common.{◌≡◌, ℕ, suc, ◌≤◌, List, [], ◌∷◌, ◌++◌, map, length, refl, sym, ap, ◌∙◌, subst, arith}
 use Rattle.std.proofs.lemmas.List.{append-nil}
-use Rattle.query_core.specs.Keys.{IsGroup, IsInRange}
+use Rattle.query_core.specs.Keys.{IsGroup, IsGroupInRange}
 use Rattle.query_core.specs.declared.query.Query.{Query}
 use Rattle.query_core.specs.declared.words.KeyParts.{KeyParts}
 use Rattle.plan_space.specs.Gives.{node_group, kid_of, kid_under}
@@ -75,7 +75,7 @@ tree_known q (two node left right) is =
     node_known q node (kid_of q left) (kid_of q right ∷ []) is.2 (tree_known q left is.0)
 
 -- the groups of plans are in range
-pub trees_range : (q : Query) → ((g : KeyParts) → IsGroup q g → IsInRange g) → (ts : List Tree) → ArePlanTrees q ts
+pub trees_range : (q : Query) → ((g : KeyParts) → IsGroup q g → IsGroupInRange g) → (ts : List Tree) → ArePlanTrees q ts
     → HaveRanges (kids_at q ts)
 trees_range q range [] are = tt
 trees_range q range (t ∷ ts) are = (range (kid_of q t).group (tree_known q t are.0), trees_range q range ts are.1)

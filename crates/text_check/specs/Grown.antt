@@ -1,6 +1,6 @@
 -- The plans that are made of lines, from the last line up.
 use Rattle.std.specs.Prelude.{ℕ, ◌≡◌, ◌<◌, ◌≤◌, List, [], ◌∷◌, ◌++◌, Option, None, Some, map, ⊤}
-use Rattle.query_core.specs.Keys.{root_of, IsInRange}
+use Rattle.query_core.specs.Keys.{root_of, IsGroupInRange}
 use Rattle.query_core.specs.declared.query.Query.{Query}
 use Rattle.plan_space.specs.Gives.{node_group, kid_of}
 use Rattle.plan_space.specs.Nodes.{Tree, leaf, over, two, node_modes}
@@ -19,8 +19,8 @@ use Rattle.text_check.specs.Blocks.{EndsBlock, IsMisfit}
 use Rattle.text_check.specs.declared.fault.TreeFault.{TreeFault}
 use Rattle.text_check.specs.declared.fault.TreeFault.TheVariants as faults
 use Rattle.text_check.specs.declared.kids.Grown.{Grown}
-use Rattle.text_check.specs.declared.kids.Kids.{Kids}
-use Rattle.text_check.specs.declared.kids.Kids.TheVariants as kids
+use Rattle.text_check.specs.declared.kids.TakenKids.{TakenKids}
+use Rattle.text_check.specs.declared.kids.TakenKids.TheVariants as kids
 
 -- ---- one plan
 
@@ -71,7 +71,7 @@ pub record IsOver (q : Query) (line : NodeLine) (below : List Tree) (grown : Gro
 -- ---- the plans below a node
 
 -- none, one or two, the left one first
-abbrev pub kids_list : Kids → List Grown
+abbrev pub kids_list : TakenKids → List Grown
 kids_list kids.Nothing = []
 kids_list (kids.One only) = only ∷ []
 kids_list (kids.Two left right) = left ∷ right ∷ []
@@ -83,7 +83,7 @@ seen_of list = map (λ grown. grown.kid) list
 -- their groups are groups that some query can have
 abbrev pub HaveRanges : List Kid → Type 0
 HaveRanges [] = ⊤
-HaveRanges (kid ∷ others) = IsInRange kid.group × HaveRanges others
+HaveRanges (kid ∷ others) = IsGroupInRange kid.group × HaveRanges others
 
 -- a node over none, one or two plans
 abbrev pub tree_over : NodeKind → List Tree → Tree
@@ -132,7 +132,7 @@ IsPopped level before after None = (before ≡ after) × EndsAt level after
 IsPopped level before after (Some first) = (before ≡ first ∷ after) × IsDeeper level first
 
 -- the deeper plans were taken off, none, one or two of them; there are more where none are told
-abbrev pub IsTaken : ℕ → List Grown → List Grown → Option Kids → Type 0
+abbrev pub IsTaken : ℕ → List Grown → List Grown → Option TakenKids → Type 0
 IsTaken level before after None = (first : Grown) × (second : Grown) × (third : Grown) × (others : List Grown)
     × (before ≡ first ∷ second ∷ third ∷ others) × AreDeeper level (first ∷ second ∷ third ∷ [])
 IsTaken level before after (Some taken) =

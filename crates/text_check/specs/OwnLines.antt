@@ -13,7 +13,7 @@ use Rattle.plan_tree.specs.Seen.{kids_seen, HasGroup, HaveGroups}
 use Rattle.plan_tree.specs.Spells.{Spells}
 use Rattle.plan_tree.specs.declared.node.Node.{Node}
 use Rattle.plan_tree.specs.declared.plan.Plan.{Plan}
-use Rattle.plan_tree.specs.declared.seen.Below.{Below}
+use Rattle.plan_tree.specs.declared.seen.Kids.{Kids}
 use Rattle.plan_check.specs.Nodes.{IsKindOf}
 use Rattle.plan_reading.specs.Outline.{IsPlanTree}
 use Rattle.text_check.specs.declared.own.OwnLine.{OwnLine}
@@ -44,11 +44,11 @@ abbrev pub IsSeenOf : Query → Plan → Kid → Type 0
 IsSeenOf q plan seen = (tree : Tree) → Spells plan tree → seen ≡ kid_of q tree
 
 -- this is seen of the node over these plans
-abbrev pub IsSeenOver : Query → Node → Below → Kid → Type 0
+abbrev pub IsSeenOver : Query → Node → Kids → Kid → Type 0
 IsSeenOver q node below seen = (kind : NodeKind) → IsNode node kind → seen ≡ kid_under q kind (kids_seen below)
 
 -- the line of the node was added, where the groups are the query's
-abbrev pub AddsLine : Query → Node → Below → List OwnLine → List OwnLine → Type 0
+abbrev pub AddsLine : Query → Node → Kids → List OwnLine → List OwnLine → Type 0
 AddsLine q node below before after = (kind : NodeKind) → IsNode node kind → HasGroup q kind → HaveGroups q below
     → after ≡ before ++ (own_line q kind (kids_seen below) ∷ [])
 

@@ -7,7 +7,8 @@ ghost use Rattle.plan_space.specs.Nodes.{Tree};
 ghost use Rattle.plan_tree.specs.Spells.{Spells};
 ghost use Rattle.plan_check.specs.Outcome.{most_nodes};
 ghost use Rattle.text_check.specs.Blocks.{AreLinesOf};
-ghost use Rattle.text_check.specs.Outcome.{IsExactly, IsOutcome, HasLines, IsGoodText, IsTooLong, IsUnformed, IsTooLarge};
+ghost use Rattle.text_check.specs.Outcome.{IsExactly, IsOutcome, HasLines, IsGoodText, IsTooLong, IsUnformed};
+ghost use Rattle.text_check.specs.Outcome.{IsTooLarge};
 ghost use Rattle.text_check.specs.Outcome.{HasMisfit, HasOutsider, HasUnfit, IsUnsatisfied, HasNumberFault};
 ghost use Rattle.text_check.specs.Outcome.{AreOwnNumbers, IsNumberFault};
 

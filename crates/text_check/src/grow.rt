@@ -1,7 +1,8 @@
 //! The plan that lines spell, from the last line up.
 #![tactic(auto)]
 
-ghost use Rattle.std.specs.Prelude.{◌≡◌, ◌↔◌, ◌<◌, ◌≤◌, ℕ, List, IsTrue, IfOk, IfErr, MatchOption, length, reverse, map};
+ghost use Rattle.std.specs.Prelude.{◌≡◌, ◌↔◌, ◌<◌, ◌≤◌, ℕ, List, IsTrue, IfOk, IfErr, MatchOption, length, reverse};
+ghost use Rattle.std.specs.Prelude.{map};
 ghost use Rattle.std.specs.List.{All};
 ghost use Rattle.query_core.specs.Keys.{root_of};
 ghost use Rattle.query_core.specs.declared.query.Query.{Query as AnyQuery};
@@ -9,7 +10,7 @@ ghost use Rattle.query_core.specs.Expressions.{expr_of, physical_fields, AreInRa
 ghost use Rattle.request_props.specs.Numbered.{IsProps};
 ghost use Rattle.plan_space.specs.Gives.{kid_of};
 ghost use Rattle.plan_space.specs.Nodes.{Tree};
-ghost use Rattle.plan_space.specs.declared.nodes.NodeKind.{NodeKind as Kind};
+ghost use Rattle.plan_space.specs.declared.nodes.NodeKind.{NodeKind as AnyNodeKind};
 ghost use Rattle.plan_tree.specs.Nodes.{IsNode};
 ghost use Rattle.plan_tree.specs.Seen.{kids_seen};
 ghost use Rattle.plan_tree.specs.Spells.{Spells};
@@ -22,12 +23,12 @@ ghost use Rattle.text_check.specs.Grown.{AreGrown, HasMode, HasTreeFault, IsOver
 ghost use Rattle.text_check.specs.Grown.{kids_list, seen_of, tree_over, HaveRanges};
 
 use crate::fault::TreeFault;
-use crate::kids::{Grown, Kids, take_kids};
+use crate::kids::{Grown, TakenKids, take_kids};
 use crate::node_over::node_over;
 use plan_check::{has_kids, is_enforcer_of, is_kind_of};
 use plan_reading::{NodeLine, nodes_are_meant, outlines_are_one};
 use plan_space::NodeKind;
-use plan_tree::{Below, Node, Plan, seen_above};
+use plan_tree::{Kids, Node, Plan, seen_above};
 use query_core::{
     Children, KeyParts, Physical, PhysicalExpr, Query, candidates_are_known, groups_are_known,
 };
@@ -78,7 +79,7 @@ fn over(
     query: &Query,
     props: &Props,
     line: NodeLine,
-    kids: Kids,
+    kids: TakenKids,
 ) -> Result<Option<Grown>, AllocError>
     requires props { IsProps query.now props.now }
     requires form { HasForm query.now line.node }
@@ -105,15 +106,15 @@ fn over(
 }
 
 // The plan of a node over these.
-fn plan_over(alloc: Global, node: Node, kids: Kids) -> Result<Plan, AllocError>
-    ensures { (q : AnyQuery) (kind : Kind) (trees : List Tree) → IsNode node kind →
+fn plan_over(alloc: Global, node: Node, kids: TakenKids) -> Result<Plan, AllocError>
+    ensures { (q : AnyQuery) (kind : AnyNodeKind) (trees : List Tree) → IsNode node kind →
         AreGrown q (kids_list kids) trees →
         IfOk result (λ plan. Spells plan (tree_over kind trees)) }
 {
     Ok(match kids {
-        Kids::Nothing => Plan::Leaf(node),
-        Kids::One(only) => Plan::Over(node, Box::new(alloc, only.plan)?),
-        Kids::Two(left, right) => Plan::Two(
+        TakenKids::Nothing => Plan::Leaf(node),
+        TakenKids::One(only) => Plan::Over(node, Box::new(alloc, only.plan)?),
+        TakenKids::Two(left, right) => Plan::Two(
             node,
             Box::new(alloc, left.plan)?,
             Box::new(alloc, right.plan)?,
@@ -124,7 +125,7 @@ fn plan_over(alloc: Global, node: Node, kids: Kids) -> Result<Plan, AllocError>
 // ---- whether a node may stand over plans
 
 // Whether the node is one of the query, over the right kids, and at level 0 of its root.
-fn may_stand(query: &Query, props: &Props, level: u32, kind: NodeKind, below: Below) -> bool
+fn may_stand(query: &Query, props: &Props, level: u32, kind: NodeKind, below: Kids) -> bool
     requires props { IsProps query.now props.now }
     requires mode { HasMode kind }
     ensures { IsTrue result ↔ MayStand query.now level kind (kids_seen below) }

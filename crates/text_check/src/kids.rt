@@ -6,7 +6,7 @@ ghost use Rattle.plan_tree.specs.Seen.{kids_seen};
 ghost use Rattle.text_check.specs.Grown.{IsTaken, IsPopped, IsFirstDeeper, kids_list, seen_of};
 
 use plan_space::Kid;
-use plan_tree::{Below, Plan};
+use plan_tree::{Kids, Plan};
 
 /// A plan, the level of its line, and what is seen of it.
 #[derive(Drop)]
@@ -18,40 +18,40 @@ pub struct Grown {
 
 /// The plans that a node stands over.
 #[derive(Drop)]
-pub enum Kids {
+pub enum TakenKids {
     Nothing,
     One(Grown),
     /// The left one and the right one.
     Two(Grown, Grown),
 }
 
-impl Kids {
+impl TakenKids {
     /// What a node sees of them.
-    pub fn seen(&self) -> Below
+    pub fn seen(&self) -> Kids
         ensures { kids_seen result ≡ seen_of (kids_list self.now) }
     {
         match self {
-            Kids::Nothing => Below::Nothing,
-            Kids::One(only) => Below::One(only.kid),
-            Kids::Two(left, right) => Below::Two(left.kid, right.kid),
+            TakenKids::Nothing => Kids::Nothing,
+            TakenKids::One(only) => Kids::One(only.kid),
+            TakenKids::Two(left, right) => Kids::Two(left.kid, right.kid),
         }
     }
 }
 
 /// Takes off the plans that lie deeper than this level, where they are at most two. The first plan
 /// is the last of the list.
-pub fn take_kids(grown: &mut Vec<Grown>, level: u32) -> Option<Kids>
+pub fn take_kids(grown: &mut Vec<Grown>, level: u32) -> Option<TakenKids>
     ensures { IsTaken level (reverse grown.old.items) (reverse grown.new.items) result }
 {
     let Some(left) = take_deeper(grown, level) else {
-        return Some(Kids::Nothing);
+        return Some(TakenKids::Nothing);
     };
     let Some(right) = take_deeper(grown, level) else {
-        return Some(Kids::One(left));
+        return Some(TakenKids::One(left));
     };
     match take_deeper(grown, level) {
         Some(_) => None,
-        None => Some(Kids::Two(left, right)),
+        None => Some(TakenKids::Two(left, right)),
     }
 }
 

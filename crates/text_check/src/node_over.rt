@@ -2,27 +2,27 @@
 #![tactic(auto)]
 
 ghost use Rattle.std.specs.Prelude.{◌≡◌, ◌<◌};
-ghost use Rattle.query_core.specs.Keys.{IsInRange};
-ghost use Rattle.plan_space.specs.Gives.{first_group as group_of_first};
+ghost use Rattle.query_core.specs.Keys.{IsGroupInRange};
+ghost use Rattle.plan_space.specs.Gives.{first_group as the_first_group};
 ghost use Rattle.plan_space.specs.Modes.{modes_end};
 ghost use Rattle.plan_tree.specs.Seen.{kids_seen};
-ghost use Rattle.plan_reading.specs.NodeOver.{node_over as node_by_name, native as native_in};
-ghost use Rattle.plan_reading.specs.NodeOver.{number_in as number_of_mode, IsSmall, HasSmallMode};
-ghost use Rattle.plan_reading.specs.NodeOver.{second_group as group_of_second, joined_group as group_of_joined};
-ghost use Rattle.plan_reading.specs.NodeOver.{native_over as native_by_name, group_over as group_by_name};
-ghost use Rattle.plan_reading.specs.NodeOver.{group_below as below_by_name};
+ghost use Rattle.plan_reading.specs.NodeOver.{node_over as the_node_over, native as the_native};
+ghost use Rattle.plan_reading.specs.NodeOver.{number_in as the_number_in, IsSmall, HasSmallMode};
+ghost use Rattle.plan_reading.specs.NodeOver.{second_group as the_second_group, joined_group as the_joined_group};
+ghost use Rattle.plan_reading.specs.NodeOver.{native_over as the_native_over, group_over as the_group_over};
+ghost use Rattle.plan_reading.specs.NodeOver.{group_below as the_group_below};
 ghost use Rattle.text_check.specs.Grown.{HasMode, HaveRanges};
 
 use plan_reading::{Named, over_groups};
 use plan_space::{Mode, NodeKind};
-use plan_tree::Below;
+use plan_tree::Kids;
 use query_core::{KeyParts, Logical, Physical, PhysicalExpr};
 
 /// The one node that may be meant.
-pub fn node_over(named: Named, below: Below) -> NodeKind
+pub fn node_over(named: Named, below: Kids) -> NodeKind
     requires small { HasSmallMode named }
     requires groups { HaveRanges (kids_seen below) }
-    ensures node { result ≡ node_by_name named (kids_seen below) }
+    ensures node { result ≡ the_node_over named (kids_seen below) }
     ensures mode { HasMode result }
 {
     match named {
@@ -40,11 +40,11 @@ fn native_over(
     operator: Physical,
     table: u32,
     mode: Mode,
-    below: Below,
+    below: Kids,
 ) -> NodeKind
     requires small { IsSmall mode }
     requires groups { HaveRanges (kids_seen below) }
-    ensures node { result ≡ native_by_name implemented operator table mode (kids_seen below) }
+    ensures node { result ≡ the_native_over implemented operator table mode (kids_seen below) }
     ensures mode { HasMode result }
 {
     let left = group_below(implemented, table, below);
@@ -53,9 +53,9 @@ fn native_over(
 }
 
 // The group in which this is implemented.
-fn group_over(implemented: Logical, table: u32, below: Below) -> KeyParts
+fn group_over(implemented: Logical, table: u32, below: Kids) -> KeyParts
     requires { HaveRanges (kids_seen below) }
-    ensures { result ≡ group_by_name implemented table (kids_seen below) }
+    ensures { result ≡ the_group_over implemented table (kids_seen below) }
 {
     match implemented {
         Logical::Get => KeyParts::Get(table),
@@ -68,9 +68,9 @@ fn group_over(implemented: Logical, table: u32, below: Below) -> KeyParts
 }
 
 // The first of the groups below.
-fn group_below(implemented: Logical, table: u32, below: Below) -> KeyParts
+fn group_below(implemented: Logical, table: u32, below: Kids) -> KeyParts
     requires { HaveRanges (kids_seen below) }
-    ensures { result ≡ below_by_name implemented table (kids_seen below) }
+    ensures { result ≡ the_group_below implemented table (kids_seen below) }
 {
     match implemented {
         Logical::Get => first_group(below),
@@ -83,16 +83,16 @@ fn group_below(implemented: Logical, table: u32, below: Below) -> KeyParts
 }
 
 // The group that joins the tables of the plans.
-fn joined_group(below: Below) -> KeyParts
+fn joined_group(below: Kids) -> KeyParts
     requires { HaveRanges (kids_seen below) }
-    ensures { result ≡ group_of_joined (kids_seen below) }
+    ensures { result ≡ the_joined_group (kids_seen below) }
 {
     KeyParts::Join(first_group(below).tables() | second_group(below).tables())
 }
 
 fn native(group: KeyParts, operator: Physical, mode: Mode) -> NodeKind
     requires { IsSmall mode }
-    ensures node { result ≡ native_in group operator mode }
+    ensures node { result ≡ the_native group operator mode }
     ensures mode { HasMode result }
 {
     NodeKind::Native(PhysicalExpr { group, operator }, number_in(mode))
@@ -101,7 +101,7 @@ fn native(group: KeyParts, operator: Physical, mode: Mode) -> NodeKind
 // The number of a mode.
 fn number_in(mode: Mode) -> u32
     requires { IsSmall mode }
-    ensures number { result ≡ number_of_mode mode }
+    ensures number { result ≡ the_number_in mode }
     ensures few { result < modes_end }
 {
     match mode {
@@ -111,26 +111,26 @@ fn number_in(mode: Mode) -> u32
     }
 }
 
-fn first_group(below: Below) -> KeyParts
+fn first_group(below: Kids) -> KeyParts
     requires { HaveRanges (kids_seen below) }
-    ensures group { result ≡ group_of_first (kids_seen below) }
-    ensures in_range { IsInRange result }
+    ensures group { result ≡ the_first_group (kids_seen below) }
+    ensures in_range { IsGroupInRange result }
 {
     match below {
-        Below::Nothing => KeyParts::Get(0),
-        Below::One(kid) => kid.group,
-        Below::Two(left, _) => left.group,
+        Kids::Nothing => KeyParts::Get(0),
+        Kids::One(kid) => kid.group,
+        Kids::Two(left, _) => left.group,
     }
 }
 
-fn second_group(below: Below) -> KeyParts
+fn second_group(below: Kids) -> KeyParts
     requires { HaveRanges (kids_seen below) }
-    ensures group { result ≡ group_of_second (kids_seen below) }
-    ensures in_range { IsInRange result }
+    ensures group { result ≡ the_second_group (kids_seen below) }
+    ensures in_range { IsGroupInRange result }
 {
     match below {
-        Below::Nothing => KeyParts::Get(0),
-        Below::One(_) => KeyParts::Get(0),
-        Below::Two(_, right) => right.group,
+        Kids::Nothing => KeyParts::Get(0),
+        Kids::One(_) => KeyParts::Get(0),
+        Kids::Two(_, right) => right.group,
     }
 }

@@ -4,14 +4,14 @@
 ghost use Rattle.std.specs.Prelude.{◌≡◌, IfOk, OnOk};
 ghost use Rattle.request_props.specs.Numbered.{IsProps};
 ghost use Rattle.plan_space.specs.Nodes.{Tree};
-ghost use Rattle.plan_space.specs.declared.nodes.NodeKind.{NodeKind as Kind};
+ghost use Rattle.plan_space.specs.declared.nodes.NodeKind.{NodeKind as AnyNodeKind};
 ghost use Rattle.plan_tree.specs.Nodes.{IsNode};
 ghost use Rattle.plan_tree.specs.Spells.{Spells};
 ghost use Rattle.plan_reading.specs.Outline.{IsPlanTree};
-ghost use Rattle.text_check.specs.OwnLines.{own_lines as lines_of, IsSeenOf, IsSeenOver, AddsLine, AddsLines};
+ghost use Rattle.text_check.specs.OwnLines.{own_lines as the_own_lines, IsSeenOf, IsSeenOver, AddsLine, AddsLines};
 
 use plan_space::{Enforcer, Kid, NodeKind};
-use plan_tree::{Below, Node, Plan, cost_above_any, rows_above, seen_above};
+use plan_tree::{Kids, Node, Plan, cost_above_any, rows_above, seen_above};
 use query_core::Query;
 use request_props::Props;
 use std::alloc::{AllocError, Global};
@@ -33,7 +33,7 @@ pub fn own_lines(
 ) -> Result<Vec<OwnLine>, AllocError>
     requires { IsProps query.now props.now }
     ensures { IfOk result (λ lines. (t : Tree) → Spells plan.now t → IsPlanTree query.now t →
-        lines.items ≡ lines_of query.now t) }
+        lines.items ≡ the_own_lines query.now t) }
 {
     let mut lines = Vec::new(alloc);
     push_lines(query, props, plan, &mut lines)?;
@@ -53,15 +53,15 @@ fn push_lines(
     ensures added { OnOk result (AddsLines query.now plan.now lines.old.items lines.new.items) }
 {
     match plan {
-        Plan::Leaf(node) => push_line(query, props, *node, Below::Nothing, lines),
+        Plan::Leaf(node) => push_line(query, props, *node, Kids::Nothing, lines),
         Plan::Over(node, kid) => {
             let only = push_lines(query, props, kid, lines)?;
-            push_line(query, props, *node, Below::One(only), lines)
+            push_line(query, props, *node, Kids::One(only), lines)
         }
         Plan::Two(node, left, right) => {
             let second = push_lines(query, props, right, lines)?;
             let first = push_lines(query, props, left, lines)?;
-            push_line(query, props, *node, Below::Two(first, second), lines)
+            push_line(query, props, *node, Kids::Two(first, second), lines)
         }
     }
 }
@@ -71,7 +71,7 @@ fn push_line(
     query: &Query,
     props: &Props,
     node: Node,
-    below: Below,
+    below: Kids,
     lines: &mut Vec<OwnLine>,
 ) -> Result<Kid, AllocError>
     requires { IsProps query.now props.now }
@@ -89,7 +89,7 @@ fn push_line(
 
 // What the node does; a number that no node has counts as that of a gather.
 fn kind_of(node: Node) -> NodeKind
-    ensures { (kind : Kind) → IsNode node kind → result ≡ kind }
+    ensures { (kind : AnyNodeKind) → IsNode node kind → result ≡ kind }
 {
     match node.kind() {
         Some(kind) => kind,

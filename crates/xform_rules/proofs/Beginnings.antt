@@ -10,7 +10,7 @@ use Rattle.query_core.proofs.Bits.{bit-below, bit-none, bit-or, bit-and, bit-one
 use Rattle.query_core.proofs.Bits.{has_below}
 use Rattle.query_core.proofs.Unions.{several_more}
 use Rattle.query_core.proofs.Whole.{bit_cases}
-use Rattle.xform_rules.specs.OneOrder.{IsCutTo, BeginsWith, begun, less, SplitsAfter, cut, associated}
+use Rattle.xform_rules.specs.OneOrder.{IsCutTo, CutsDownTo, begun, less, SplitsAfter, cut, associated}
 use Rattle.xform_rules.proofs.Components.{less_of, linked_in_more}
 use Rattle.xform_rules.proofs.LastCuts.{within_le}
 
@@ -94,39 +94,39 @@ module _ (q : Query) where
       let same : s ≡ t = omega (arith, last_s.greatest t last_t.cut, last_t.greatest s last_s.cut) in
       same_x ∙ ap (λ k. set - 2 ^ k) same ∙ sym same_y
 
-  pub begins_within : (set part : ℕ) → BeginsWith q set part → (t : ℕ) → Has part t → Has set t
+  pub begins_within : (set part : ℕ) → CutsDownTo q set part → (t : ℕ) → Has part t → Has set t
   begins_within set part (begun s) t has = has
   begins_within set part (less s next p cuts rest) t has =
       cut_within set next cuts t (begins_within next part rest t has)
 
-  pub begins_le : (set part : ℕ) → BeginsWith q set part → part ≤ set
+  pub begins_le : (set part : ℕ) → CutsDownTo q set part → part ≤ set
   begins_le set part begins = within_le part set (begins_within set part begins)
 
-  pub begins_then : (a b c : ℕ) → BeginsWith q a b → BeginsWith q b c → BeginsWith q a c
+  pub begins_then : (a b c : ℕ) → CutsDownTo q a b → CutsDownTo q b c → CutsDownTo q a c
   begins_then a b c (begun s) second = second
   begins_then a b c (less s next p cuts rest) second = less a next c cuts (begins_then next b c rest second)
 
   -- a set that begins with less has a last cut
-  pub begins_cut : (set part : ℕ) → BeginsWith q set part → part ≢ set → (next : ℕ) × IsCutTo q set next
+  pub begins_cut : (set part : ℕ) → CutsDownTo q set part → part ≢ set → (next : ℕ) × IsCutTo q set next
   begins_cut set part (begun s) other = absurd (other refl)
   begins_cut set part (less s next p cuts rest) other = (next, cuts)
 
   -- what isn't the whole set is a beginning of what the last cut leaves
-  pub begins_next : (set next part : ℕ) → IsCutTo q set next → BeginsWith q set part → part ≢ set
-      → BeginsWith q next part
+  pub begins_next : (set next part : ℕ) → IsCutTo q set next → CutsDownTo q set part → part ≢ set
+      → CutsDownTo q next part
   begins_next set next part cuts (begun s) other = absurd (other refl)
   begins_next set next part cuts (less s n p own rest) other =
-      subst (λ x. BeginsWith q x part) (cut_one set n next own cuts) rest
+      subst (λ x. CutsDownTo q x part) (cut_one set n next own cuts) rest
 
   -- of two beginnings the less is one of the greater
-  pub begins_both : (set a b : ℕ) → BeginsWith q set a → BeginsWith q set b → a ≤ b → BeginsWith q b a
+  pub begins_both : (set a b : ℕ) → CutsDownTo q set a → CutsDownTo q set b → a ≤ b → CutsDownTo q b a
   begins_both set a b first (begun s) at_most = first
   begins_both set a b first (less s next p cuts rest) at_most =
       begins_both next a b (begins_next set next a cuts first
       (λ same. absurd (omega (arith, same, at_most, begins_le next b rest, cut_less set next cuts)))) rest at_most
 
   -- a join's left side is a beginning, and not all
-  pub splits_begins : (set part : ℕ) → SplitsAfter q set part → BeginsWith q set part × (part < set)
+  pub splits_begins : (set part : ℕ) → SplitsAfter q set part → CutsDownTo q set part × (part < set)
   splits_begins set part (cut s p cuts) = (less set part part cuts (begun part), cut_less set part cuts)
   splits_begins set part (associated s inner p outer within linked) =
       let first = splits_begins set inner outer in
@@ -140,7 +140,7 @@ module _ (q : Query) where
       splits_some inner part (omega (arith, (splits_begins set inner outer).1, small)) within
 
   -- what a shorter beginning leaves is linked to what a longer one's rest is
-  pub linked_wider : (set long short other : ℕ) → BeginsWith q set long → BeginsWith q long short
+  pub linked_wider : (set long short other : ℕ) → CutsDownTo q set long → CutsDownTo q long short
       → AreLinked q.links (set - long) other
       → AreLinked q.links (set - short) other
   linked_wider set long short other outer inner linked =

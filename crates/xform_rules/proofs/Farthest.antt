@@ -4,13 +4,13 @@ use Rattle.std.specs.Prelude.{◌≢◌}
 use Rattle.std.proofs.lemmas.Bool.{cases_eq, cases_lt}
 use Rattle.query_core.specs.Connected.{AreLinked}
 use Rattle.query_core.specs.declared.query.Query.{Query}
-use Rattle.xform_rules.specs.OneOrder.{IsCutTo, BeginsWith, begun, less, SplitsAfter, cut, associated, IsFarthest}
+use Rattle.xform_rules.specs.OneOrder.{IsCutTo, CutsDownTo, begun, less, SplitsAfter, cut, associated, IsFarthest}
 use Rattle.xform_rules.proofs.Beginnings.{cut_one, begins_le, begins_then, begins_next, begins_both, splits_begins}
 use Rattle.xform_rules.proofs.Beginnings.{linked_wider}
 
 module _ (q : Query) where
   -- two overlapping runs of tables are joined together
-  overlap : (a end m l : ℕ) → SplitsAfter q end a → BeginsWith q l a → BeginsWith q end l → BeginsWith q m end → end ≢ m
+  overlap : (a end m l : ℕ) → SplitsAfter q end a → CutsDownTo q l a → CutsDownTo q end l → CutsDownTo q m end → end ≢ m
       → l ≢ end → SplitsAfter q m l
       → SplitsAfter q m a
   overlap a end m l run first second third differs apart (cut s p cuts) =
@@ -33,17 +33,17 @@ module _ (q : Query) where
               overlap a end m j run (begins_then q j l a begins_l first)
               (begins_both q m j end begins_j third (omega (arith, shorter))) third differs other outer
           | inr longer ↦
-              let end_in_j : BeginsWith q j end = begins_both q m end j third begins_j longer in
+              let end_in_j : CutsDownTo q j end = begins_both q m end j third begins_j longer in
               associated m j a outer (overlap a end j l run first second end_in_j (λ same. other (sym same)) apart
               within)
               (linked_wider q j l a (m - j) begins_l first linked)
         ]
       ]
 
-  module _ (set next end a : ℕ) (cuts : IsCutTo q set next) (begins : BeginsWith q next end) (run : SplitsAfter q end a)
-      (most : (p : ℕ) → BeginsWith q next p → SplitsAfter q p a → p ≤ end) where
+  module _ (set next end a : ℕ) (cuts : IsCutTo q set next) (begins : CutsDownTo q next end) (run : SplitsAfter q end a)
+      (most : (p : ℕ) → CutsDownTo q next p → SplitsAfter q p a → p ≤ end) where
     -- a join that begins inside the farthest run is reached over that run's end
-    over_end : (l : ℕ) → BeginsWith q l a → BeginsWith q end l → l ≢ end → SplitsAfter q set l → SplitsAfter q set end
+    over_end : (l : ℕ) → CutsDownTo q l a → CutsDownTo q end l → l ≢ end → SplitsAfter q set l → SplitsAfter q set end
         × AreLinked q.links (end - l) (set - end)
     over_end l first second apart (cut s p own) =
         absurd (apart (omega (
@@ -54,7 +54,7 @@ module _ (q : Query) where
         )))
     over_end l first second apart (associated s m p outer within linked) =
         let own = splits_begins q set m outer in
-        let begins_m : BeginsWith q next m = begins_next q set next m cuts own.0
+        let begins_m : CutsDownTo q next m = begins_next q set next m cuts own.0
         (λ same. absurd (omega (arith, same, own.1))) in
         let begins_l = (splits_begins q m l within).0 in
         elim (cases_eq m end) [
@@ -64,11 +64,11 @@ module _ (q : Query) where
           )
           | inr other ↦ elim (cases_lt m end) [
             | inl shorter ↦
-                let m_in_end : BeginsWith q end m = begins_both q next m end begins_m begins (omega (arith, shorter)) in
+                let m_in_end : CutsDownTo q end m = begins_both q next m end begins_m begins (omega (arith, shorter)) in
                 let over = over_end m (begins_then q m l a begins_l first) m_in_end other outer in
                 (over.0, linked_wider q end m l (set - end) m_in_end begins_l over.1)
             | inr longer ↦
-                let end_in_m : BeginsWith q m end = begins_both q next end m begins begins_m longer in
+                let end_in_m : CutsDownTo q m end = begins_both q next end m begins begins_m longer in
                 let whole : SplitsAfter q m a = overlap a end m l run first second end_in_m (λ same. other (sym same))
                 apart within in
                 absurd (other (omega (arith, most m begins_m whole, longer)))
@@ -80,7 +80,7 @@ module _ (q : Query) where
     over_farthest differs (cut s p own) = absurd (differs (cut_one q set a next own cuts))
     over_farthest differs (associated s l p outer within linked) =
         let own = splits_begins q set l outer in
-        let begins_l : BeginsWith q next l = begins_next q set next l cuts own.0
+        let begins_l : CutsDownTo q next l = begins_next q set next l cuts own.0
         (λ same. absurd (omega (arith, same, own.1))) in
         let begins_a = (splits_begins q l a within).0 in
         elim (cases_eq l end) [
@@ -89,7 +89,7 @@ module _ (q : Query) where
             subst (λ x. AreLinked q.links (x - a) (set - x)) same linked,
           )
           | inr other ↦
-              let l_in_end : BeginsWith q end l = begins_both q next l end begins_l begins (most l begins_l within) in
+              let l_in_end : CutsDownTo q end l = begins_both q next l end begins_l begins (most l begins_l within) in
               let over = over_end l begins_a l_in_end other outer in
               (over.0, linked_wider q end l a (set - end) l_in_end begins_a over.1)
         ]

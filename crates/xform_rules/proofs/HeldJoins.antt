@@ -9,7 +9,7 @@ use Rattle.xform_rules.specs.declared.rules.Rule.TheVariants as rules
 use Rattle.xform_rules.specs.Rules.{IsOn}
 use Rattle.xform_rules.specs.Closure.{IsMember}
 use Rattle.xform_rules.specs.Held.{Place, group, sides, all_of, IsHeld, all, left, right, expanded, turned, moved}
-use Rattle.xform_rules.specs.OneOrder.{BeginsWith, SplitsAfter, LeadsTo}
+use Rattle.xform_rules.specs.OneOrder.{CutsDownTo, SplitsAfter, LeadsTo}
 use Rattle.xform_rules.specs.Splits.{HasJoinGroup, HasJoin}
 use Rattle.xform_rules.proofs.HeldMembers.{group_held, join_held}
 use Rattle.xform_rules.proofs.OneOrderHeld.{IsCutJoin, group_in_order, join_in_order, group_by_cuts, join_by_cuts}
@@ -31,7 +31,7 @@ held_group q place (moved set inner a b c on outer within linked) = held_group q
 module _ (q : Query) (candidates : (e : ExprParts) → IsMember q e → IsCandidate q e) (set : ℕ)
     (known : IsGroup q (groups.Join set)) where
   -- without JoinAssociate: what all tables begin with
-  pub group_without : (IsOn q rules.JoinAssociate → ⊥) → BeginsWith q (all_of q) set ↔ HasJoinGroup q set
+  pub group_without : (IsOn q rules.JoinAssociate → ⊥) → CutsDownTo q (all_of q) set ↔ HasJoinGroup q set
   group_without off =
       let by_cuts = group_by_cuts q off set known.1 in
       let held = group_held q candidates set known in

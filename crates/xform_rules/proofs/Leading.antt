@@ -4,7 +4,7 @@ use Rattle.std.specs.Prelude.{◌≢◌}
 use Rattle.query_core.specs.Sets.{Has}
 use Rattle.query_core.specs.declared.query.Query.{Query}
 use Rattle.query_core.proofs.Bits.{bit-below}
-use Rattle.xform_rules.specs.OneOrder.{IsCutTo, BeginsWith, begun, less, SplitsAfter, cut, LeadsTo, there, by_left}
+use Rattle.xform_rules.specs.OneOrder.{IsCutTo, CutsDownTo, begun, less, SplitsAfter, cut, LeadsTo, there, by_left}
 use Rattle.xform_rules.specs.OneOrder.{by_right, LeadsBeside}
 use Rattle.xform_rules.proofs.Beginnings.{rest_bit, begins_within, begins_next, begins_cut, splits_begins}
 
@@ -32,7 +32,7 @@ module _ (q : Query) where
       by_right a side c splits (leads_then (a - side) b c leads second)
 
   -- a set leads to what it begins with
-  pub begins_lead : (set side part : ℕ) → BeginsWith q set side → LeadsTo q side part → LeadsTo q set part
+  pub begins_lead : (set side part : ℕ) → CutsDownTo q set side → LeadsTo q side part → LeadsTo q set part
   begins_lead set side part (begun s) leads = leads
   begins_lead set side part (less s next p cuts rest) leads =
       by_left set next part (cut set next cuts) (begins_lead next side part rest leads)
@@ -66,7 +66,7 @@ module _ (q : Query) where
   pub beside_back : (set start part : ℕ) → LeadsBeside q set start part → LeadsTo q set part
   beside_back set start part (side, begins, splits, leads) = by_right set side part splits leads
 
-  beside_from : (set start part side : ℕ) → BeginsWith q start side → SplitsAfter q set side
+  beside_from : (set start part side : ℕ) → CutsDownTo q start side → SplitsAfter q set side
       → LeadsTo q (set - side) part
       → (SplitsAfter q set start × LeadsTo q (set - start) part)
       ⊎ ((next : ℕ) × IsCutTo q start next × LeadsBeside q set next part)

@@ -13,7 +13,7 @@ use Rattle.xform_rules.proofs.LastCuts.{within_le}
 use Rattle.xform_rules.specs.declared.rules.Rule.TheVariants as rules
 use Rattle.xform_rules.specs.Rules.{IsOn}
 use Rattle.xform_rules.specs.Held.{Place, group, sides, all_of, IsHeld, all, left, right, expanded, turned, moved}
-use Rattle.xform_rules.specs.OneOrder.{IsCutTo, BeginsWith, begun, less, SplitsAfter, cut, associated, LeadsTo, there}
+use Rattle.xform_rules.specs.OneOrder.{IsCutTo, CutsDownTo, begun, less, SplitsAfter, cut, associated, LeadsTo, there}
 use Rattle.xform_rules.specs.OneOrder.{by_left, by_right}
 use Rattle.xform_rules.proofs.EverySplit.{sides_add}
 use Rattle.xform_rules.proofs.Validity.{set_small, held_valid}
@@ -110,8 +110,8 @@ module _ (q : Query) where
 
   -- what is held then
   abbrev pub IsByCuts : Place → Type 0
-  IsByCuts (group set) = IsTrue (is_several set) → BeginsWith q (all_of q) set
-  IsByCuts (sides set a b) = BeginsWith q (all_of q) set × IsCutJoin set a b
+  IsByCuts (group set) = IsTrue (is_several set) → CutsDownTo q (all_of q) set
+  IsByCuts (sides set a b) = CutsDownTo q (all_of q) set × IsCutJoin set a b
 
   -- a side that isn't what the last cut leaves has one table
   other_side : (set a b : ℕ) → FallsInto q set a b → set < 2 ^ length q.tables → IsCutTo q set a → IsTrue (is_several b)
@@ -149,14 +149,14 @@ module _ (q : Query) where
   held_by_cuts off place (moved set inner a b c on outer within linked) = absurd (off on)
 
   -- a beginning of a set that is held
-  begins_held : (set part : ℕ) → BeginsWith q set part → IsHeld q (group set) → IsHeld q (group part)
+  begins_held : (set part : ℕ) → CutsDownTo q set part → IsHeld q (group set) → IsHeld q (group part)
   begins_held set part (begun s) held = held
   begins_held set part (less s next p cuts rest) held =
       begins_held next part rest (left set next (set - next) (cut_held set next cuts held))
 
   -- exactly the groups of several tables that all tables begin with
   pub group_by_cuts : (IsOn q rules.JoinAssociate → ⊥) → (set : ℕ) → IsTrue (is_several set) → IsHeld q (group set)
-      ↔ BeginsWith q (all_of q) set
+      ↔ CutsDownTo q (all_of q) set
   group_by_cuts off set several = (
     λ held. held_by_cuts off (group set) held several,
     λ begins.

@@ -12,9 +12,9 @@ pub record IsCutTo (q : Query) (set rest : ℕ) : Type 0 where
   pub last : (t : ℕ) × IsLastCut q set t × (rest ≡ set - 2 ^ t)
 
 -- the part is left of the set where some last cuts are taken away, one after the other
-pub data BeginsWith (q : Query) : ℕ → ℕ → Type 0 where
-  begun : (set : ℕ) → BeginsWith q set set
-  less : (set next part : ℕ) → IsCutTo q set next → BeginsWith q next part → BeginsWith q set part
+pub data CutsDownTo (q : Query) : ℕ → ℕ → Type 0 where
+  begun : (set : ℕ) → CutsDownTo q set set
+  less : (set next part : ℕ) → IsCutTo q set next → CutsDownTo q next part → CutsDownTo q set part
 
 -- JoinAssociate alone leads to the join of the part with the others: from the last cut, or from two joins of which the
 -- one is in the other's left group
@@ -32,11 +32,11 @@ pub data LeadsTo (q : Query) : ℕ → ℕ → Type 0 where
 
 -- the same by the right side of a join whose left side a set begins with
 abbrev pub LeadsBeside : Query → ℕ → ℕ → ℕ → Type 0
-LeadsBeside q set start part = (side : ℕ) × BeginsWith q start side × SplitsAfter q set side
+LeadsBeside q set start part = (side : ℕ) × CutsDownTo q start side × SplitsAfter q set side
     × LeadsTo q (set - side) part
 
 -- of all that the set begins with, this is the most that is joined of the part and others
 pub record IsFarthest (q : Query) (set part far : ℕ) : Type 0 where
-  pub begins : BeginsWith q set far
+  pub begins : CutsDownTo q set far
   pub splits : SplitsAfter q far part
-  pub most : (p : ℕ) → BeginsWith q set p → SplitsAfter q p part → p ≤ far
+  pub most : (p : ℕ) → CutsDownTo q set p → SplitsAfter q p part → p ≤ far

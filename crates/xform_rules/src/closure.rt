@@ -6,7 +6,7 @@ ghost use Rattle.std.specs.List.{All, Contains};
 ghost use Rattle.std.specs.List.Sorted.{IsStrictlyIncreasing};
 ghost use Rattle.query_core.specs.declared.query.Query.{Query};
 ghost use Rattle.query_core.specs.declared.expressions.ExprParts.{ExprParts};
-ghost use Rattle.query_core.specs.Keys.{IsInRange};
+ghost use Rattle.query_core.specs.Keys.{IsGroupInRange};
 ghost use Rattle.query_core.specs.Goals.{FitsExpr};
 ghost use Rattle.query_core.specs.Expressions.{word_of, origin_of, IsPacked, IsCandidateWord};
 ghost use Rattle.xform_rules.specs.Closure.{IsMember, IsClosureOf, AreMembersOf};
@@ -16,7 +16,7 @@ use query_core::{Key, KeyParts, Query, candidates_are_known, count_below, expres
 
 /// The words of the members of one group, among those of all members.
 pub fn members_of<'a>(query: &Query, words: &'a [u64], group: KeyParts) -> &'a [u64]
-    requires in_range { IsInRange group }
+    requires in_range { IsGroupInRange group }
     requires closure { IsClosureOf query.now words.now }
     ensures { AreMembersOf query.now group result.now }
 {
@@ -27,7 +27,7 @@ pub fn members_of<'a>(query: &Query, words: &'a [u64], group: KeyParts) -> &'a [
 
 /// Those of some ascending words that are words of the group's expressions.
 pub fn words_of(words: &[u64], group: KeyParts) -> &[u64]
-    requires in_range { IsInRange group }
+    requires in_range { IsGroupInRange group }
     requires ascending { IsStrictlyIncreasing words.now }
     ensures members { (e : ExprParts) → IsPacked e → e.group ≡ group →
         Contains words.now (word_of e) → Contains result.now (word_of e) }

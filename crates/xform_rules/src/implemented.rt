@@ -4,9 +4,9 @@
 ghost use Rattle.std.specs.Prelude.{ℕ, ◌≡◌, ◌<◌, IsTrue, ◌↔◌, IfSome, Some, false, length};
 ghost use Rattle.std.specs.List.{Contains};
 ghost use Rattle.query_core.specs.declared.query.Query.{Query as AnyQuery};
-ghost use Rattle.query_core.specs.declared.words.KeyParts.{KeyParts as AnyGroup};
+ghost use Rattle.query_core.specs.declared.words.KeyParts.{KeyParts as AnyKeyParts};
 ghost use Rattle.query_core.specs.declared.expressions.Physical.{Physical as AnyPhysical};
-ghost use Rattle.query_core.specs.Expressions.{implements as implemented_of};
+ghost use Rattle.query_core.specs.Expressions.{implements as the_implements};
 ghost use Rattle.xform_rules.specs.declared.rules.Rule.{Rule as AnyRule};
 ghost use Rattle.xform_rules.specs.Forms.{Finds};
 ghost use Rattle.xform_rules.specs.Rules.{explores};
@@ -38,7 +38,7 @@ pub fn giving_rule(to: Physical) -> Rule
 
 /// The rules that implement what is wanted, in the order of their numbers. No other rule that implements is for it.
 pub fn implementing_rules(from: Logical) -> &'static [Rule]
-    ensures every { (q : AnyQuery) (rule : AnyRule) (group : AnyGroup) →
+    ensures every { (q : AnyQuery) (rule : AnyRule) (group : AnyKeyParts) →
         explores rule ≡ false → IsFor q rule group from → Contains result.now rule }
 {
     makers_of(from)
@@ -46,7 +46,7 @@ pub fn implementing_rules(from: Logical) -> &'static [Rule]
 
 /// The rules of the operators that implement it.
 fn makers_of(from: Logical) -> &'static [Rule]
-    ensures every { (group : AnyGroup) (to : AnyPhysical) → implemented_of group to ≡ from →
+    ensures every { (group : AnyKeyParts) (to : AnyPhysical) → the_implements group to ≡ from →
         Contains result.now (rule_of to) }
 {
     match from {
@@ -96,8 +96,8 @@ fn made_by(rule: Rule, group: KeyParts, from: Logical, index: u32) -> Option<Phy
 fn operator_of(rule: Rule, from: Logical, index: u32) -> Option<Physical>
     ensures rule { IfSome result (λ to. rule_of to ≡ rule) }
     ensures index { IfSome result (λ to. index_of to ≡ index) }
-    ensures only { (group : AnyGroup) (to : AnyPhysical) → rule_of to ≡ rule →
-        implemented_of group to ≡ from → index_of to ≡ index → result ≡ Some to }
+    ensures only { (group : AnyKeyParts) (to : AnyPhysical) → rule_of to ≡ rule →
+        the_implements group to ≡ from → index_of to ≡ index → result ≡ Some to }
 {
     match (rule, from, index) {
         (Rule::GetToScan, Logical::Get, 0) => Some(Physical::Scan),

@@ -2,7 +2,7 @@
 #![tactic(auto)]
 
 ghost use Rattle.std.specs.Prelude.{◌≡◌, IsTrue, ◌↔◌};
-ghost use Rattle.query_core.specs.Keys.{IsInRange};
+ghost use Rattle.query_core.specs.Keys.{IsGroupInRange};
 ghost use Rattle.query_core.specs.Expressions.{AreInRange, IsPacked, logical_fields};
 ghost use Rattle.xform_rules.specs.Forms.{Finds};
 ghost use Rattle.xform_rules.specs.JoinAssociate.{IsOverJoin, Associates};

@@ -6,7 +6,7 @@ ghost use Rattle.std.specs.Prelude.{ℕ, ◌≡◌, ◌≢◌, ◌-◌, IsTrue, 
 ghost use Rattle.query_core.specs.Sets.{Has};
 ghost use Rattle.query_core.specs.Connected.{AreLinked};
 ghost use Rattle.xform_rules.specs.Forms.{Finds};
-ghost use Rattle.xform_rules.specs.OneOrder.{IsCutTo, BeginsWith, SplitsAfter, LeadsTo, LeadsBeside, IsFarthest};
+ghost use Rattle.xform_rules.specs.OneOrder.{IsCutTo, CutsDownTo, SplitsAfter, LeadsTo, LeadsBeside, IsFarthest};
 
 use crate::expand_n_ary::{last_cut, without};
 use query_core::{Query, sets};
@@ -24,7 +24,7 @@ pub fn cut_to(query: &Query, set: u32) -> Option<u32>
 
 /// Whether the part is left of the set where some last cuts are taken away, one after the other.
 pub fn begins_with(query: &Query, set: u32, part: u32) -> bool
-    ensures { IsTrue result ↔ BeginsWith query.now set part }
+    ensures { IsTrue result ↔ CutsDownTo query.now set part }
 {
     let mut left = set;
     while left != part {
@@ -48,7 +48,7 @@ pub fn splits_after(query: &Query, set: u32, part: u32) -> bool
 
 /// The most of what the set begins with that is joined of the part and others.
 fn farthest(query: &Query, set: u32, part: u32) -> u32
-    requires begins { BeginsWith query.now set part }
+    requires begins { CutsDownTo query.now set part }
     requires more { part ≢ set }
     ensures { IsFarthest query.now set part result }
 {
@@ -103,7 +103,7 @@ pub fn leads_to(query: &Query, set: u32, part: u32) -> bool
 /// The same by the right side of a join whose left side the start begins with.
 #[cycle(leading)]
 fn leads_beside(query: &Query, set: u32, start: u32, part: u32) -> bool
-    requires begins { BeginsWith query.now set start }
+    requires begins { CutsDownTo query.now set start }
     requires more { start ≢ set }
     ensures { IsTrue result ↔ LeadsBeside query.now set start part }
 {

@@ -4,7 +4,7 @@
 ghost use Rattle.std.specs.Prelude.{ℕ, Option, ◌≡◌, ◌<◌, IsTrue, ◌↔◌, IfSome, None, true};
 ghost use Rattle.std.specs.List.{Contains};
 ghost use Rattle.query_core.specs.declared.query.Query.{Query as AnyQuery};
-ghost use Rattle.query_core.specs.declared.words.KeyParts.{KeyParts as AnyGroup};
+ghost use Rattle.query_core.specs.declared.words.KeyParts.{KeyParts as AnyKeyParts};
 ghost use Rattle.xform_rules.specs.declared.rules.Rule.{Rule as AnyRule};
 ghost use Rattle.xform_rules.specs.Rules.{explores};
 ghost use Rattle.std.specs.Option.{option_map};
@@ -48,7 +48,7 @@ fn is_for(query: &Query, rule: Rule, group: KeyParts, from: Logical) -> bool
 
 /// The rules that explore what is wanted, in the order of their numbers. No other rule that explores is for it.
 pub fn exploring_rules(from: Logical) -> &'static [Rule]
-    ensures every { (q : AnyQuery) (rule : AnyRule) (group : AnyGroup) →
+    ensures every { (q : AnyQuery) (rule : AnyRule) (group : AnyKeyParts) →
         explores rule ≡ true → IsFor q rule group from → Contains result.now rule }
 {
     match from {

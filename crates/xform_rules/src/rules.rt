@@ -4,8 +4,8 @@
 ghost use Rattle.std.specs.Prelude.{◌≡◌, ◌≤◌, IsTrue, ◌↔◌, IfSome, Some};
 ghost use Rattle.std.specs.List.{Contains};
 ghost use Rattle.xform_rules.specs.Rules.{all_rules, rule_name, rule_number, rule_limit, IsOn};
-ghost use Rattle.xform_rules.specs.Rules.{explores as rule_explores, binds as rule_binds};
-ghost use Rattle.xform_rules.specs.Rules.{can_be_off as may_be_off, work_of};
+ghost use Rattle.xform_rules.specs.Rules.{explores as the_explores, binds as the_binds};
+ghost use Rattle.xform_rules.specs.Rules.{can_be_off as the_can_be_off, work_of};
 ghost use Rattle.xform_rules.specs.Rules.{most_results, most_allowed, is_exploring, is_binding};
 ghost use Rattle.xform_rules.specs.Rules.{can_stop, can_be_without, binds_member};
 
@@ -156,21 +156,21 @@ impl Rule {
 
     /// Whether it gives other logical expressions. The other rules give physical ones.
     pub fn explores(self) -> bool
-        ensures { result ≡ rule_explores self }
+        ensures { result ≡ the_explores self }
     {
         self.work().explores()
     }
 
     /// Whether it binds a member of the left child's group.
     pub fn binds(self) -> bool
-        ensures { result ≡ rule_binds self }
+        ensures { result ≡ the_binds self }
     {
         self.work().binds()
     }
 
     /// Whether it can be switched off.
     pub fn can_be_off(self) -> bool
-        ensures { result ≡ may_be_off self }
+        ensures { result ≡ the_can_be_off self }
     {
         self.work().can_stop()
     }

@@ -3,9 +3,9 @@
 
 ghost use Rattle.std.specs.Prelude.{ℕ, ◌≡◌, ◌≤◌, length};
 ghost use Rattle.xform_rules.specs.Forms.{Finds};
-ghost use Rattle.xform_rules.specs.UsableIndexes.{is_sought as sought_by, is_literal as literal_by};
-ghost use Rattle.xform_rules.specs.UsableIndexes.{seeks as seeks_by, is_usable as usable_by};
-ghost use Rattle.xform_rules.specs.UsableIndexes.{is_sought_column as column_sought};
+ghost use Rattle.xform_rules.specs.UsableIndexes.{is_sought as the_is_sought, is_literal as the_is_literal};
+ghost use Rattle.xform_rules.specs.UsableIndexes.{seeks as the_seeks, is_usable as the_is_usable};
+ghost use Rattle.xform_rules.specs.UsableIndexes.{is_sought_column as the_is_sought_column};
 ghost use Rattle.xform_rules.specs.UsableIndexes.{IsNthUsable, HasNthUsable};
 
 use orca_base::List;
@@ -39,7 +39,7 @@ fn nth_usable(query: &Query, table: u32, indexes: &[List<u32>], n: u32) -> Optio
 
 /// Whether a predicate has the index's first column on its left, and finds rows by it.
 fn is_usable(query: &Query, table: u32, columns: &[u32]) -> bool
-    ensures { result ≡ usable_by query.now table columns.now }
+    ensures { result ≡ the_is_usable query.now table columns.now }
 {
     match columns.first() {
         Some(column) => is_sought_column(query, table, *column),
@@ -48,7 +48,7 @@ fn is_usable(query: &Query, table: u32, columns: &[u32]) -> bool
 }
 
 fn is_sought_column(query: &Query, table: u32, column: u32) -> bool
-    ensures { result ≡ column_sought query.now table column }
+    ensures { result ≡ the_is_sought_column query.now table column }
 {
     query
         .preds
@@ -58,7 +58,7 @@ fn is_sought_column(query: &Query, table: u32, column: u32) -> bool
 }
 
 fn seeks(query: &Query, table: u32, column: u32, pred: &Pred) -> bool
-    ensures { result ≡ seeks_by query.now table column pred.now }
+    ensures { result ≡ the_seeks query.now table column pred.now }
 {
     query.is_column_of(table, pred.left)
         && pred.left == column
@@ -67,7 +67,7 @@ fn seeks(query: &Query, table: u32, column: u32, pred: &Pred) -> bool
 }
 
 fn is_sought(op: CmpOp) -> bool
-    ensures { result ≡ sought_by op }
+    ensures { result ≡ the_is_sought op }
 {
     match op {
         CmpOp::Eq => true,
@@ -80,7 +80,7 @@ fn is_sought(op: CmpOp) -> bool
 }
 
 fn is_literal(operand: &Operand) -> bool
-    ensures { result ≡ literal_by operand.now }
+    ensures { result ≡ the_is_literal operand.now }
 {
     match operand {
         Operand::Item(_) => false,

@@ -3,12 +3,12 @@
 
 ghost use Rattle.std.specs.Prelude.{◌≡◌, ◌+◌, ◌<◌, [], ◌++◌, IfOk, OnOk};
 ghost use Rattle.std.specs.List.{All};
-ghost use Rattle.query_core.specs.Keys.{IsInRange, IsGroup};
+ghost use Rattle.query_core.specs.Keys.{IsGroupInRange, IsGroup};
 ghost use Rattle.query_core.specs.Expressions.{word_of, IsJoinNumber, IsPacked};
 ghost use Rattle.query_core.specs.Finding.{expr};
 ghost use Rattle.request_props.specs.Groups.{AreKeys};
 ghost use Rattle.request_props.specs.Candidates.{AreCandidatesOf};
-ghost use Rattle.request_props.specs.Joins.{join_word as word_of_join, join_words, words_over, AreBothInRange};
+ghost use Rattle.request_props.specs.Joins.{join_word as the_join_word, join_words, words_over, AreBothInRange};
 
 use crate::candidates::sides::{Sides, all_sides};
 use orca_base::List;
@@ -35,7 +35,7 @@ pub(crate) fn words_of_joins(
 
 // The word of the join of all tables, and behind it those of the joins over these sides.
 fn words_by_sides(alloc: Global, set: u32, sides: &[Sides]) -> Result<List<u64>, AllocError>
-    requires small { IsInRange (KeyParts.Join set) }
+    requires small { IsGroupInRange (KeyParts.Join set) }
     requires in_range { All AreBothInRange sides.now }
     ensures { IfOk result (λ words. words ≡ words_over set sides.now) }
 {
@@ -46,7 +46,7 @@ fn words_by_sides(alloc: Global, set: u32, sides: &[Sides]) -> Result<List<u64>,
 
 fn push_words(words: &mut List<u64>, set: u32, sides: &[Sides]) -> Result<(), AllocError>
     requires none { words.old ≡ [] }
-    requires small { IsInRange (KeyParts.Join set) }
+    requires small { IsGroupInRange (KeyParts.Join set) }
     requires in_range { All AreBothInRange sides.now }
     ensures { OnOk result (words.new ≡ words_over set sides.now) }
 {
@@ -65,7 +65,7 @@ fn push_joins(
     sides: &[Sides],
 ) -> Result<(), AllocError>
     requires joins { IsJoinNumber number }
-    requires small { IsInRange (KeyParts.Join set) }
+    requires small { IsGroupInRange (KeyParts.Join set) }
     requires in_range { All AreBothInRange sides.now }
     ensures { OnOk result (words.new ≡ words.old ++ join_words set number sides.now) }
 {
@@ -78,9 +78,9 @@ fn push_joins(
 // The word of the join by the operator of this number over the sides.
 fn join_word(set: u32, number: u32, sides: Sides) -> u64
     requires joins { IsJoinNumber number }
-    requires small { IsInRange (KeyParts.Join set) }
+    requires small { IsGroupInRange (KeyParts.Join set) }
     requires in_range { AreBothInRange sides }
-    ensures { result ≡ word_of_join set number sides }
+    ensures { result ≡ the_join_word set number sides }
 {
     word(set, Operator::on_two(number, sides.left, sides.right))
 }

@@ -9,7 +9,7 @@ ghost use Rattle.request_props.specs.Counted.{IsAmong};
 ghost use Rattle.request_props.specs.Ends.{AreCrossingBy, AreEndsOf, HasColumn, IsGivenBy};
 ghost use Rattle.request_props.specs.NumberSets.{IsInSet};
 ghost use Rattle.request_props.specs.declared.given.GivenDist.TheVariants.{Hashed};
-ghost use Rattle.request_props.specs.declared.ends.EqualityEnds.{EqualityEnds as AnyEnds};
+ghost use Rattle.request_props.specs.declared.ends.EqualityEnds.{EqualityEnds as AnyEqualityEnds};
 ghost use Rattle.request_props.specs.Numbered.{IsProps, side_of, both_sides, equality_of};
 ghost use Rattle.request_props.specs.Numbered.{order_of, column_list, column_order};
 ghost use Rattle.request_props.specs.Satisfied.{BeginsWith, Meets};
@@ -173,7 +173,7 @@ impl Props {
 
 // What stands at this place of the list, if it has so many.
 fn ends_at(list: &[EqualityEnds], place: u32) -> Option<EqualityEnds>
-    ensures found { IfSome result (λ ends. (d : AnyEnds) → (place < length list.now) ×
+    ensures found { IfSome result (λ ends. (d : AnyEqualityEnds) → (place < length list.now) ×
         (slice_index_or list.now place d ≡ ends)) }
     ensures none { result ≡ None → length list.now ≤ place }
 {

@@ -2,13 +2,13 @@
 #![tactic(auto)]
 
 ghost use Rattle.std.specs.Prelude.{◌≡◌, ◌≤◌, ◌<◌, ◌↔◌, IsTrue, None, Some};
-ghost use Rattle.query_core.specs.Keys.{IsGroup, IsKey, Names};
-ghost use Rattle.query_core.specs.declared.words.KeyParts.{KeyParts as Group};
+ghost use Rattle.query_core.specs.Keys.{IsGroup, IsKey, NamesGroup};
+ghost use Rattle.query_core.specs.declared.words.KeyParts.{KeyParts as AnyKeyParts};
 ghost use Rattle.cardinality.specs.Rows.{rows_of};
 ghost use Rattle.request_props.specs.Candidates.{AreCandidatesOf, ArePhysicalOf, FindsNext};
 ghost use Rattle.request_props.specs.Numbered.{IsProps, IsList, IsNumbered};
-ghost use Rattle.request_props.specs.Numbered.{table_dist as dist_of_table, group_order as order_of_groups};
-ghost use Rattle.request_props.specs.Numbered.{is_grouped_list as is_list_grouped};
+ghost use Rattle.request_props.specs.Numbered.{table_dist as the_table_dist, group_order as the_group_order};
+ghost use Rattle.request_props.specs.Numbered.{is_grouped_list as the_is_grouped_list};
 
 use crate::given::GivenDist;
 use crate::groups::is_key;
@@ -64,7 +64,7 @@ impl Props {
     /// The estimated rows of the group that the key names, where the query has it.
     pub fn rows(&self, query: &Query, key: Key) -> u64
         requires { IsProps query.now self.now }
-        ensures value { (g : Group) → Names query.now key g → result ≡ rows_of query.now g }
+        ensures value { (g : AnyKeyParts) → NamesGroup query.now key g → result ≡ rows_of query.now g }
         ensures most { result ≤ 1000000000000 }
     {
         groups_are_known();
@@ -89,7 +89,7 @@ impl Props {
     /// Where the rows of a table lie.
     pub fn table_dist(&self, query: &Query, table: u32) -> GivenDist
         requires { IsProps query.now self.now }
-        ensures { result ≡ dist_of_table query.now table }
+        ensures { result ≡ the_table_dist query.now table }
     {
         match self.placement.placings.as_slice().get(table as usize) {
             Some(dist) => *dist,
@@ -116,7 +116,7 @@ impl Props {
     /// Whether the list has a number, and all of its columns are in GROUP BY.
     pub fn is_grouped_list(&self, query: &Query, list: u32) -> bool
         requires { IsProps query.now self.now }
-        ensures { result ≡ is_list_grouped query.now list }
+        ensures { result ≡ the_is_grouped_list query.now list }
     {
         match self.placement.grouped.as_slice().get(list as usize) {
             Some(grouped) => *grouped,
@@ -127,7 +127,7 @@ impl Props {
     /// The number of the order of the GROUP BY columns, each ascending; 0 where there is none.
     pub fn group_order(&self, query: &Query) -> u32
         requires { IsProps query.now self.now }
-        ensures { result ≡ order_of_groups query.now }
+        ensures { result ≡ the_group_order query.now }
     {
         self.placement.by_groups
     }

@@ -2,7 +2,7 @@ use Rattle.std.proofs.Common.{subst}
 use Rattle.std.proofs.lemmas.List.Elements.{All-more}
 use Rattle.json.specs.Tree.{json_tokens}
 use Rattle.query_core.specs.declared.catalog.ColumnInfo.{ColumnInfo}
-use Rattle.catalog_text.specs.Adds.{Adds}
+use Rattle.catalog_text.specs.AddsTokens.{AddsTokens}
 use Rattle.catalog_text.specs.Signed.{ColumnFits}
 use Rattle.catalog_text.specs.Text.{column_json}
 use Rattle.catalog_text.proofs.Adding.{more_added}
@@ -17,7 +17,7 @@ loop-column-preserved c =
     record {
       added = more_added column_json columns loop.column-index _ c.args.out.now loop.out c.write_column.new.out within
           loop.invariant.added
-          (subst (λ (x : ColumnInfo). Adds loop.out c.write_column.new.out (json_tokens (column_json x)))
+          (subst (λ (x : ColumnInfo). AddsTokens loop.out c.write_column.new.out (json_tokens (column_json x)))
           c.column-item.is c.in_ok-write_column.ensures.added);
       fit = All-more ColumnFits columns loop.column-index _ within loop.invariant.fit
           (subst ColumnFits c.column-item.is c.in_ok-write_column.ensures.fits);

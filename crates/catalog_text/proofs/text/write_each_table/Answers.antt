@@ -2,7 +2,7 @@ use Rattle.std.proofs.Common.{subst}
 use Rattle.std.proofs.lemmas.List.Elements.{All-more}
 use Rattle.json.specs.Tree.{json_tokens}
 use Rattle.query_core.specs.declared.catalog.TableInfo.{TableInfo}
-use Rattle.catalog_text.specs.Adds.{Adds}
+use Rattle.catalog_text.specs.AddsTokens.{AddsTokens}
 use Rattle.catalog_text.specs.Signed.{TableFits}
 use Rattle.catalog_text.specs.Text.{table_json}
 use Rattle.catalog_text.proofs.Adding.{more_added}
@@ -17,7 +17,8 @@ loop-table-preserved c =
     record {
       added = more_added table_json tables loop.table-index _ c.args.out.now loop.out c.write_table.new.out within
           loop.invariant.added
-          (subst (λ (x : TableInfo). Adds loop.out c.write_table.new.out (json_tokens (table_json x))) c.table-item.is
+          (subst (λ (x : TableInfo). AddsTokens loop.out c.write_table.new.out (json_tokens (table_json x)))
+          c.table-item.is
           c.in_ok-write_table.ensures.added);
       fit = All-more TableFits tables loop.table-index _ within loop.invariant.fit
           (subst TableFits c.table-item.is c.in_ok-write_table.ensures.fits);

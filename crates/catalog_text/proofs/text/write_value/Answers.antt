@@ -12,7 +12,7 @@ returns-clause-added c =
     (both_added _ _ _ _ _
     (both_added _ _ _ _ _ (token_added _ _ _ _ c.in_ok-begin_object.ensures)
     (token_added _ _ _ _ c.in_ok-key.ensures))
-    (token_added _ _ _ _ (rw c.number_of.ensures at c.in_ok-u64.ensures)))
+    (token_added _ _ _ _ (rw c.number_of_version.ensures at c.in_ok-u64.ensures)))
     (token_added _ _ _ _ c.in_ok-key-2.ensures))
     (token_added _ _ _ _ c.in_ok-u64-2.ensures))
     (token_added _ _ _ _ c.in_ok-key-3.ensures))

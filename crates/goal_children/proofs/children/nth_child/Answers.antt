@@ -1,6 +1,6 @@
 use Rattle.std.proofs.Common.{◌∙◌, [], ◌∷◌, ◌++◌, refl, arith}
 use Rattle.std.proofs.lemmas.List.{length-append}
-use Rattle.goal_space.specs.Words.{IsInRange}
+use Rattle.goal_space.specs.Words.{IsGoalInRange}
 use Rattle.goal_space.specs.declared.goals.GoalKind.{GoalKind}
 use Rattle.goal_children.specs.Children.{IsChildIn}
 use Rattle.goal_children.proofs.Listing.{up_to_none, up_to_next, below_next, all_up_to}
@@ -23,7 +23,7 @@ children-preserved c =
     let words = c.args.memo.members.now in
     let passed = c.children.invariant.passed in
     let next = c.in-Some.next in
-    let in_range : (child : GoalKind) → IsChildIn q words c.args.goal child → IsInRange child =
+    let in_range : (child : GoalKind) → IsChildIn q words c.args.goal child → IsGoalInRange child =
     λ child is. c.children_are_over_the_query.ensures.words q c.requires.memo.collected.few_lists
     c.requires.memo.collected.few_orders child
     (c.children_are_over_the_query.ensures.children q words c.args.goal child c.requires.goal is) in

@@ -1,11 +1,11 @@
-use Rattle.query_core.specs.Keys.{Names}
+use Rattle.query_core.specs.Keys.{NamesGroup}
 use Rattle.goal_children.proofs.Enforced.{below_in_range, enforced_exact}
 use Rattle.goal_children.proofs.choice.enforced_by.Goals as goal
 
 pub returns : goal.returns
 returns c =
     let q = c.args.memo.query.now in
-    let known : Names q c.make-key.result c.args.group =
+    let known : NamesGroup q c.make-key.result c.args.group =
     record { number = c.make-key.ensures.number; known = c.requires.goal.of_candidate } in
     let first = c.enforcer.ensures.at_place c.args.group known in
     let second = c.enforcer-2.ensures.at_place c.args.group known in

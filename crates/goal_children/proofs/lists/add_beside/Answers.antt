@@ -1,6 +1,6 @@
 use Rattle.std.proofs.Common.{◌≡◌, All, sym, subst}
 use Rattle.std.proofs.lemmas.List.Elements.{All-push}
-use Rattle.goal_space.specs.Words.{IsInRange}
+use Rattle.goal_space.specs.Words.{IsGoalInRange}
 use Rattle.goal_space.specs.declared.goals.GoalKind.TheVariants.{Imp}
 use Rattle.goal_children.proofs.Appending.{appends_one}
 use Rattle.goal_children.proofs.ByKind.{beside_added}
@@ -9,8 +9,8 @@ use Rattle.goal_children.proofs.lists.add_beside.Goals as goal
 -- goals and one more fit
 pub insert_enforced-requires-clause-listed : goal.insert_enforced-requires-clause-listed
 insert_enforced-requires-clause-listed c =
-    subst (All IsInRange) (sym c.in_ok-push.ensures.items)
-    (All-push IsInRange c.args.goals.now.items (Imp c.args.group) c.requires.listed
+    subst (All IsGoalInRange) (sym c.in_ok-push.ensures.items)
+    (All-push IsGoalInRange c.args.goals.now.items (Imp c.args.group) c.requires.listed
     (c.groups_are_known.ensures.in_range c.args.memo.query.now c.args.group c.requires.goal.of_candidate))
 
 -- the implementation, and behind it what enforcers ask for

@@ -1,6 +1,6 @@
 use Rattle.std.proofs.Common.{◌≡◌, Option, Some, sym, subst, ap, ◌∙◌}
 use Rattle.std.specs.Prelude.{IfSome}
-use Rattle.goal_space.specs.Words.{IsInRange}
+use Rattle.goal_space.specs.Words.{IsGoalInRange}
 use Rattle.goal_space.specs.declared.goals.GoalKind.{GoalKind}
 use Rattle.goal_children.proofs.Appending.{appends_nothing, appends_one}
 use Rattle.goal_children.proofs.members.push_found.Goals as goal
@@ -14,7 +14,7 @@ returns-in_ok-push-in-Some c =
     record {
       ok = appends_one (λ k. found ≡ Some k) c.args.goals.now.items c.push.new.self.items this
           (λ k. (λ same. (let both : Some this ≡ Some k = sym is ∙ same in cc), λ also. is ∙ ap Some (sym also)))
-          (subst (λ (o : Option GoalKind). IfSome o IsInRange) is c.requires) c.in_ok-push-in-Some.ensures.items;
+          (subst (λ (o : Option GoalKind). IfSome o IsGoalInRange) is c.requires) c.in_ok-push-in-Some.ensures.items;
     }
 
 -- or none

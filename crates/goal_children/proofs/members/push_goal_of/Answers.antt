@@ -2,7 +2,7 @@ use Rattle.std.proofs.Common.{◌≡◌, List, Option, Some, sym, subst}
 use Rattle.std.specs.Prelude.{IfSome, MatchOption}
 use Rattle.std.proofs.lemmas.Result.{on_ok_weaker}
 use Rattle.query_core.specs.Expressions.{word_of}
-use Rattle.goal_space.specs.Words.{IsInRange}
+use Rattle.goal_space.specs.Words.{IsGoalInRange}
 use Rattle.goal_space.specs.declared.goals.GoalKind.{GoalKind}
 use Rattle.goal_children.specs.declared.jobs.MemberJob.{MemberJob}
 use Rattle.goal_children.specs.declared.jobs.MemberJob.TheVariants.{Transform, Serve}
@@ -17,7 +17,7 @@ module _ (c : After-expressions_are_one) (job : MemberJob) (is : c.args.job ≡ 
     (finds : MatchOption found ((k : GoalKind) → IsGoalOf c.args.memo.query.now job c.args.e k → ⊥)
     (IsGoalOf c.args.memo.query.now job c.args.e)) where
   -- what was found for the job fits
-  fits : IfSome found IsInRange
+  fits : IfSome found IsGoalInRange
   fits =
       let q = c.args.memo.query.now in
       let props = c.requires.memo.collected in

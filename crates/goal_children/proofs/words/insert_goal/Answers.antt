@@ -1,7 +1,7 @@
 use Rattle.std.proofs.Common.{◌≡◌, List, subst}
 use Rattle.std.specs.List.{Contains}
 use Rattle.std.proofs.lemmas.List.Elements.{All-contains}
-use Rattle.goal_space.specs.Words.{goal_word, IsInRange}
+use Rattle.goal_space.specs.Words.{goal_word, IsGoalInRange}
 use Rattle.goal_space.specs.declared.goals.GoalKind.{GoalKind}
 use Rattle.goal_children.specs.GoalLists.{HaveWord, IsPlaceFor}
 use Rattle.goal_children.proofs.Inserting.{inserted_at, inserted_before}
@@ -32,5 +32,5 @@ returns-in-None c =
     subst (λ (gs : List GoalKind). HaveWord gs (goal_word c.args.goal)) c.as_slice.ensures.value by_word in
     let (other, there, number) = goal_of_word goals (goal_word c.args.goal) has in
     let same : other ≡ c.args.goal = c.goal_kinds_are_one.ensures.one other c.args.goal
-    (All-contains IsInRange goals other c.requires.listed there) c.requires.in_range number in
+    (All-contains IsGoalInRange goals other c.requires.listed there) c.requires.in_range number in
     record { ok = inserted_before goals c.args.goal (subst (Contains goals) same there) }

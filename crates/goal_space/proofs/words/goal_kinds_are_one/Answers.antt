@@ -1,5 +1,5 @@
 use Rattle.std.proofs.Common.{arith}
-use Rattle.goal_space.specs.Words.{parts_of, IsInRange}
+use Rattle.goal_space.specs.Words.{parts_of, IsGoalInRange}
 use Rattle.goal_space.specs.declared.goals.GoalKind.{GoalKind}
 use Rattle.goal_space.proofs.OneWord.{goal_fits, word_one}
 use Rattle.goal_space.proofs.words.goal_kinds_are_one.Goals as goal
@@ -14,5 +14,6 @@ returns c =
       one = word_one exprs.expressions exprs.groups exprs.small near rules c.goals_are_one.ensures.one;
       fits = fits;
       high = λ (k : GoalKind). omega arith;
-      small = λ (k : GoalKind) (in_range : IsInRange k). c.goals_are_one.ensures.small (parts_of k) (fits k in_range);
+      small = λ (k : GoalKind) (in_range : IsGoalInRange k). c.goals_are_one.ensures.small (parts_of k)
+          (fits k in_range);
     }

@@ -5,7 +5,7 @@ use Rattle.query_core.specs.declared.query.Query.{Query}
 use Rattle.query_core.specs.declared.words.KeyParts.{KeyParts}
 use Rattle.request_props.specs.Numbered.{root_request}
 use Rattle.request_props.specs.declared.request.Request.{Request}
-use Rattle.goal_space.specs.Words.{IsInRange, goal_word}
+use Rattle.goal_space.specs.Words.{IsGoalInRange, goal_word}
 use Rattle.goal_space.specs.Goals.{root_goal_of, root_goal}
 use Rattle.goal_space.specs.declared.goals.GoalKind.TheVariants.{Opt}
 use Rattle.job_engine.proofs.engine.root_word.Goals as goal
@@ -19,7 +19,7 @@ word-requires c =
     let q = c.args.query.now in
     let is = root_is q c.group.result c.args.props.now.root (sym (c.group.ensures.only (root_of q) c.root.ensures))
     (c.root_request_is_collected.ensures q c.args.props.now c.requires) in
-    subst IsInRange (sym is) (c.goals_are_known.ensures.words q c.requires.few_lists c.requires.few_orders
+    subst IsGoalInRange (sym is) (c.goals_are_known.ensures.words q c.requires.few_lists c.requires.few_orders
     (root_goal_of q) root_goal)
 
 pub returns-clause-number : goal.returns-clause-number

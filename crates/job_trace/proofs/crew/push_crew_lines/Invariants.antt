@@ -1,6 +1,6 @@
 use Rattle.std.proofs.Common.{◌≡◌, ◌++◌, drop, string_bytes}
 use Rattle.std.specs.List.{concat}
-use Rattle.job_trace.specs.Pieces.{AreKept}
+use Rattle.job_trace.specs.Pieces.{AreWritten}
 use Rattle.job_trace.specs.Trace.{crew_lines}
 use Rattle.job_trace.proofs.crew.push_crew_lines.Given as goal
 
@@ -10,5 +10,5 @@ invariant-loop-place l = record {
   added :
       string_bytes l.text ++ concat (crew_lines l.query (drop l.place l.goals) (drop l.place l.who))
       ≡ string_bytes l.fn.text ++ concat (crew_lines l.query l.goals l.who);
-  kept : AreKept l.query l.pieces;
+  kept : AreWritten l.query l.pieces;
 }

@@ -1,5 +1,5 @@
 use Rattle.std.proofs.Common.{◌∙◌, All, length, sym, subst, ap}
-use Rattle.query_core.specs.Keys.{IsInRange}
+use Rattle.query_core.specs.Keys.{IsGroupInRange}
 use Rattle.query_core.specs.declared.expressions.ExprParts.{ExprParts}
 use Rattle.job_trace.specs.Memo.{groups_of, memo_line}
 use Rattle.job_trace.proofs.memo.memo_line.Goals as goal
@@ -7,7 +7,7 @@ use Rattle.job_trace.proofs.memo.memo_line.Goals as goal
 -- they are of groups with keys
 pub line_of-requires : goal.line_of-requires
 line_of-requires c =
-    subst (All (λ (e : ExprParts). IsInRange e.group)) (sym c.as_slice.ensures.value)
+    subst (All (λ (e : ExprParts). IsGroupInRange e.group)) (sym c.as_slice.ensures.value)
     (λ k d within. (let candidate = c.in_ok-members.ensures.candidates k d within in
     c.groups_are_known.ensures.in_range c.args.query.now _ candidate.known))
 

@@ -2,7 +2,7 @@ use Rattle.std.proofs.Common.{◌+◌, List, get_or, map, string_bytes, sym, sub
 use Rattle.std.specs.List.{concat}
 use Rattle.std.proofs.lemmas.List.{take_all, take_more}
 use Rattle.goal_space.specs.declared.goals.GoalKind.{GoalKind}
-use Rattle.query_text.specs.Added.{Adds}
+use Rattle.query_text.specs.Added.{AddsText}
 use Rattle.job_trace.specs.Goals.{child_line}
 use Rattle.job_trace.specs.GoalLines.{AddsTraced}
 use Rattle.job_trace.proofs.Traced.{traced_none, traced_more}
@@ -30,7 +30,8 @@ loop-goal-preserved c =
     (traced_more q c.args.members.now (take i goals) (get_or goals i _) children before (string_bytes c.loop-goal.text)
     (string_bytes c.push_goal_line.new.text) last
     c.in_ok-list_children_by_group.ensures.ok c.loop-goal.invariant.added c.in_ok-push_goal_line.ensures.ok
-    (subst (λ (cs : List GoalKind). Adds (string_bytes c.push_goal_line.new.text) (concat (map (child_line q) cs)) last)
+    (subst (λ (cs : List GoalKind). AddsText (string_bytes c.push_goal_line.new.text) (concat (map (child_line q) cs))
+    last)
     c.as_slice.ensures.value c.in_ok-push_child_lines.ensures.ok)) in
     record {
       added = added;

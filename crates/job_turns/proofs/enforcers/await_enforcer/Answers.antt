@@ -6,9 +6,9 @@ use Rattle.best_answers.specs.Best.{IsBest}
 use Rattle.goal_board.specs.Seats.{hands}
 use Rattle.goal_space.specs.Answers.{IsAnswerTo}
 use Rattle.goal_space.specs.declared.goals.GoalKind.TheVariants.{Opt}
-use Rattle.job_turns.specs.Choices.{IsChoice}
+use Rattle.job_turns.specs.Choices.{IsKnownBest}
 use Rattle.job_turns.specs.Requests.{IsEnforcerGoalAt, enforcer_at, enforcer_alone}
-use Rattle.job_turns.specs.declared.choice.Choice.TheVariants.{Known, Open}
+use Rattle.job_turns.specs.declared.known_best.KnownBest.TheVariants.{Known, Open}
 use Rattle.job_turns.proofs.Finding.{finds_none, finds_told}
 use Rattle.job_turns.proofs.Enforced.{found_at, goal_found, no_goal, no_node}
 use Rattle.job_turns.proofs.enforcers.await_enforcer.Goals as goal
@@ -28,11 +28,11 @@ word-word-requires g c =
     (Opt group c.in-Some.enforced.below) c.args.job.now.right.goal c.requires.goal
     (inr (inr (found.e, found.can, ap (λ (r : Request). Opt group r) found.is.is.1)))).1
 
-pub await_choice-requires-clause-word : goal.await_choice-requires-clause-word
-await_choice-requires-clause-word g c = sym c.word-word.ensures.number
+pub await_best-requires-clause-word : goal.await_best-requires-clause-word
+await_best-requires-clause-word g c = sym c.word-word.ensures.number
 
-pub await_choice-requires-clause-child : goal.await_choice-requires-clause-child
-await_choice-requires-clause-child g c =
+pub await_best-requires-clause-child : goal.await_best-requires-clause-child
+await_best-requires-clause-child g c =
     let q = c.args.query.now in
     let group = c.args.group in
     let wanted = c.args.wanted in
@@ -59,8 +59,8 @@ best_of_enforcer-best-requires-clause-enforced g c =
 
 pub best_of_enforcer-best-requires-clause-below : goal.best_of_enforcer-best-requires-clause-below
 best_of_enforcer-best-requires-clause-below g c =
-    subst (IsChoice (IsAnswerTo c.args.query.now (Opt c.args.group c.in-Some.enforced.below))
-    c.await_choice.new.job.right) c.in-Known.is c.in_ok-found-in-Some.ensures.chooses.is
+    subst (IsKnownBest (IsAnswerTo c.args.query.now (Opt c.args.group c.in-Some.enforced.below))
+    c.await_best.new.job.right) c.in-Known.is c.in_ok-found-in-Some.ensures.chooses.is
 
 pub returns-in-Known-clause-chooses : goal.returns-in-Known-clause-chooses
 returns-in-Known-clause-chooses g c =
@@ -75,7 +75,7 @@ returns-in-Known-clause-chooses g c =
     (IsAnswerTo q (Opt group c.in-Some.enforced.below))
     (IsBest q group wanted (enforcer_at wanted c.args.place))
     (goal_found q group wanted c.args.place c.in-Some.enforced found) c.in_ok-found-in-Some.found
-    (hands c.await_choice.new.seat) c.await_choice.new.job.right c.in_ok-found-in-Some.ensures.chooses
+    (hands c.await_best.new.seat) c.await_best.new.job.right c.in_ok-found-in-Some.ensures.chooses
     (Known c.best_of_enforcer-best.result)
     (subst (λ (there : Option EnforcedBy). IsBest q group wanted (enforcer_alone there) c.best_of_enforcer-best.result)
     (sym found.is_there) (c.best_of_enforcer-best.ensures found.e found.is))
@@ -93,8 +93,9 @@ returns-in-Open-clause-chooses g c =
     (IsAnswerTo q (Opt group c.in-Some.enforced.below))
     (IsBest q group wanted (enforcer_at wanted c.args.place))
     (goal_found q group wanted c.args.place c.in-Some.enforced found) c.in_ok-found-in-Some.found
-    (hands c.await_choice.new.seat) c.await_choice.new.job.right c.in_ok-found-in-Some.ensures.chooses
-    Open (subst (IsChoice (IsAnswerTo q (Opt group c.in-Some.enforced.below)) c.await_choice.new.job.right) c.in-Open.is
+    (hands c.await_best.new.seat) c.await_best.new.job.right c.in_ok-found-in-Some.ensures.chooses
+    Open (subst (IsKnownBest (IsAnswerTo q (Opt group c.in-Some.enforced.below)) c.await_best.new.job.right)
+    c.in-Open.is
     c.in_ok-found-in-Some.ensures.chooses.is)
 
 pub returns-in-None-clause-chooses : goal.returns-in-None-clause-chooses

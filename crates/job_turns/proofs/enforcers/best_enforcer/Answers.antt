@@ -4,9 +4,9 @@ use Rattle.best_answers.specs.Best.{IsBest}
 use Rattle.goal_board.specs.Seats.{hands}
 use Rattle.goal_space.specs.Entries.{NamesGoal}
 use Rattle.goal_space.specs.declared.goals.GoalKind.TheVariants.{Opt}
-use Rattle.job_turns.specs.Choices.{FindsChoice}
+use Rattle.job_turns.specs.Choices.{FindsBest}
 use Rattle.job_turns.specs.Requests.{IsEnforcerGoal, IsEnforcerGoalAt, enforcer_at, first_enforcers}
-use Rattle.job_turns.specs.declared.choice.Choice.{Choice}
+use Rattle.job_turns.specs.declared.known_best.KnownBest.{KnownBest}
 use Rattle.job_turns.proofs.Finding.{chooses_none, finds_both, finds_others}
 use Rattle.job_turns.proofs.Enforced.{goal_of_first}
 use Rattle.job_turns.proofs.enforcers.best_enforcer.Goals as goal
@@ -45,8 +45,8 @@ returns-clause-chooses g c =
     c.in_ok-second.second
     (hands c.await_enforcer.new.seat) c.await_enforcer.new.job.right w after c.in_ok-first.ensures.chooses
     c.in_ok-second.ensures.chooses in
-    subst (λ (choice : Choice). FindsChoice q b.setup.capacity v start (IsEnforcerGoal q group wanted)
-    (IsBest q group wanted (first_enforcers wanted)) choice w after) (sym c.or.ensures)
+    subst (λ (known_best : KnownBest). FindsBest q b.setup.capacity v start (IsEnforcerGoal q group wanted)
+    (IsBest q group wanted (first_enforcers wanted)) known_best w after) (sym c.or.ensures)
     (finds_others q b.setup.capacity v start _ (IsEnforcerGoal q group wanted)
     (IsBest q group wanted (first_enforcers wanted)) (IsBest q group wanted (first_enforcers wanted))
     (goal_of_first wanted q group) (λ best is. is) _ w after both)

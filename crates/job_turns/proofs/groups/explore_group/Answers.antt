@@ -11,7 +11,7 @@ use Rattle.goal_space.specs.declared.goals.GoalKind.TheVariants.{Exp}
 use Rattle.goal_rules.specs.Explored.{explored, origin_word, IsLogicalWord}
 use Rattle.goal_rules.specs.Answers.{IsAnswerWord}
 use Rattle.goal_rules.specs.Meaning.{meaning_of}
-use Rattle.job_turns.specs.Works.{Adds}
+use Rattle.job_turns.specs.Works.{AddsWord}
 use Rattle.job_turns.proofs.GroupLemmas.{exploration_of, exploration_adds}
 use Rattle.job_turns.proofs.groups.explore_group.Goals as goal
 
@@ -50,7 +50,7 @@ returns-clause-works g c =
     let group = c.args.group in
     let right = c.args.job.now.right in
     works_wider (meaning_of q) b.setup.capacity (ExplorationAdds (meaning_of q) (origin_word q group) right.goal)
-    (Adds q (Exp group)) (exploration_adds q group (c.words_are_known.ensures.children q)
+    (AddsWord q (Exp group)) (exploration_adds q group (c.words_are_known.ensures.children q)
     c.requires.at_work.has_job.board.small right.goal c.requires.goal)
     (hands c.args.seat.now) right c.explore.result (hands c.explore.new.seat) c.explore.new.job.right
     (subst (λ (p : Query). Works (meaning_of p) b.setup.capacity

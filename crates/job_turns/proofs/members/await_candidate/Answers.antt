@@ -7,7 +7,7 @@ use Rattle.goal_space.specs.Children.{CanServe}
 use Rattle.goal_space.specs.declared.goals.GoalKind.{GoalKind}
 use Rattle.goal_space.specs.declared.goals.GoalKind.TheVariants.{Opt, OptE}
 use Rattle.job_turns.specs.Requests.{IsGoalOfMember, IsBestOfMember}
-use Rattle.job_turns.specs.declared.choice.Choice.TheVariants.{Known}
+use Rattle.job_turns.specs.declared.known_best.KnownBest.TheVariants.{Known}
 use Rattle.job_turns.proofs.JobHeld.{job_looked}
 use Rattle.job_turns.proofs.Finding.{finds_none, finds_looked, looks_choose, chooses_others}
 use Rattle.job_turns.proofs.Serving.{best_without, best_with}
@@ -23,8 +23,8 @@ goal_here-requires-clause-in_range g c =
     (c.goals_are_known.ensures.words c.args.query.now c.requires.props.few_lists c.requires.props.few_orders
     (Opt c.args.candidate.expr.group c.args.wanted) c.requires.goal.is_goal).1
 
-pub await_choice-requires-clause-word : goal.await_choice-requires-clause-word
-await_choice-requires-clause-word g c = c.in-Some.ensures.goal.1
+pub await_best-requires-clause-word : goal.await_best-requires-clause-word
+await_best-requires-clause-word g c = c.in-Some.ensures.goal.1
 
 pub returns-in-None-clause-at_work : goal.returns-in-None-clause-at_work
 returns-in-None-clause-at_work g c =
@@ -49,16 +49,16 @@ returns-in-None-clause-chooses g c =
     (λ child is. none is.0) None (best_without q e.group wanted (c.answers_are_best.ensures.none q) e none))
     c.goal_here.ensures.looks
 
-pub await_choice-requires-clause-at_work : goal.await_choice-requires-clause-at_work
-await_choice-requires-clause-at_work g c =
+pub await_best-requires-clause-at_work : goal.await_best-requires-clause-at_work
+await_best-requires-clause-at_work g c =
     record {
       has_job = job_looked c.args.query.now c.args.board.now c.args.seat.now c.goal_here.new.seat c.args.job.now
           c.goal_here.ensures.seat c.requires.at_work.has_job c.goal_here.ensures.looks;
       hints = c.requires.at_work.hints;
     }
 
-pub await_choice-requires-clause-child : goal.await_choice-requires-clause-child
-await_choice-requires-clause-child g c =
+pub await_best-requires-clause-child : goal.await_best-requires-clause-child
+await_best-requires-clause-child g c =
     let e = c.args.candidate.expr in
     (Opt e.group c.args.wanted, c.requires.goal, inr (inl (e, c.in-Some.ensures.goal.0, refl)))
 
@@ -70,11 +70,11 @@ returns-in-Some-clause-chooses g c =
     let capacity = c.args.board.now.setup.capacity in
     let v = hands c.args.seat.now in
     let before = c.args.job.now.right in
-    let w = hands c.await_choice.new.seat in
-    let after = c.await_choice.new.job.right in
+    let w = hands c.await_best.new.seat in
+    let after = c.await_best.new.job.right in
     looks_choose q capacity v before (IsGoalOfMember q e wanted) (IsBestOfMember q e wanted)
     (hands c.goal_here.new.seat)
-    c.goal_here.ensures.looks c.await_choice.result w after
+    c.goal_here.ensures.looks c.await_best.result w after
     (chooses_others q capacity (hands c.goal_here.new.seat) before (λ (child : GoalKind). child ≡ OptE e wanted)
     (IsGoalOfMember q e wanted) (IsAnswerTo q (OptE e wanted)) (IsBestOfMember q e wanted)
-    (λ child is. is.1) (best_with q e.group wanted e) c.await_choice.result w after c.await_choice.ensures.chooses)
+    (λ child is. is.1) (best_with q e.group wanted e) c.await_best.result w after c.await_best.ensures.chooses)

@@ -10,9 +10,9 @@ use Rattle.goal_space.specs.Entries.{NamesGoal, IsChildWord}
 use Rattle.goal_space.specs.Words.{goal_word}
 use Rattle.goal_space.specs.declared.goals.GoalKind.TheVariants.{Imp, Opt}
 use Rattle.goal_rules.specs.Meaning.{meaning_of}
-use Rattle.job_turns.specs.Choices.{FindsChoice}
+use Rattle.job_turns.specs.Choices.{FindsBest}
 use Rattle.job_turns.specs.Requests.{IsImplemented, IsMemberGoal, IsBestOfMembers}
-use Rattle.job_turns.specs.declared.choice.Choice.{Choice}
+use Rattle.job_turns.specs.declared.known_best.KnownBest.{KnownBest}
 use Rattle.job_turns.proofs.Finding.{finds_none, finds_others, chooses_none}
 use Rattle.job_turns.proofs.Serving.{IsMemberGoalAmong, IsBestAmong, member_goal_none, best_none, of_candidate}
 use Rattle.job_turns.proofs.Serving.{candidate_here, finds_more, member_goal_all, best_all}
@@ -70,7 +70,7 @@ returns-in_err-other-clause-chooses g c =
     rw c.from_residual.ensures
     (chooses_none q c.args.board.now.setup.capacity (hands c.args.seat.now) c.args.job.now.right
     (IsMemberGoalAmong q c.args.group c.args.wanted tried) (IsBestAmong q c.args.group c.args.wanted tried)
-    c.loop-candidate.choice
+    c.loop-candidate.known_best
     (hands c.loop-candidate.seat) c.loop-candidate.job.right (hands c.await_candidate.new.seat)
     c.await_candidate.new.job.right c.loop-candidate.invariant.found c.in_err-other.ensures.chooses)
 
@@ -89,12 +89,12 @@ loop-candidate-preserved g c =
     let fits = c.goals_are_known.ensures.requests q (Opt group wanted) c.requires.goal.is_goal in
     record {
       at_work = c.await_candidate.ensures.at_work;
-      found = subst (λ (choice : Choice). FindsChoice q capacity v start
+      found = subst (λ (known_best : KnownBest). FindsBest q capacity v start
           (IsMemberGoalAmong q group wanted (take (i + 1) candidates))
-          (IsBestAmong q group wanted (take (i + 1) candidates)) choice w after) (sym c.or-choice.ensures)
+          (IsBestAmong q group wanted (take (i + 1) candidates)) known_best w after) (sym c.or-known_best.ensures)
           (finds_more q group wanted candidates c.physical_of-candidates.ensures i _ c.loop-candidate-test.true
           capacity v
-          start (c.answers_are_best.ensures.lesser q) c.args.props.now c.requires.props fits c.loop-candidate.choice
+          start (c.answers_are_best.ensures.lesser q) c.args.props.now c.requires.props fits c.loop-candidate.known_best
           c.in_ok-other.other
           (hands c.loop-candidate.seat) c.loop-candidate.job.right w after c.loop-candidate.invariant.found
           c.in_ok-other.ensures.chooses);
@@ -113,12 +113,12 @@ returns-clause-chooses g c =
     let w = hands c.loop-candidate.seat in
     let after = c.loop-candidate.job.right in
     let found = subst (λ (list : List PhysicalCandidate).
-    FindsChoice q capacity v start (IsMemberGoalAmong q group wanted list) (IsBestAmong q group wanted list)
-    c.loop-candidate.choice w after)
+    FindsBest q capacity v start (IsMemberGoalAmong q group wanted list) (IsBestAmong q group wanted list)
+    c.loop-candidate.known_best w after)
     (take_all c.loop-candidate.candidate-index candidates c.loop-candidate-test.false)
     c.loop-candidate.invariant.found in
     finds_others q capacity v start (IsMemberGoalAmong q group wanted candidates) (IsMemberGoal q group wanted)
     (IsBestAmong q group wanted candidates) (IsBestOfMembers q group wanted)
     (member_goal_all q group wanted (c.members_are_candidates.ensures q) candidates c.physical_of-candidates.ensures)
     (best_all q group wanted (c.members_are_candidates.ensures q) candidates c.physical_of-candidates.ensures)
-    c.loop-candidate.choice w after found
+    c.loop-candidate.known_best w after found

@@ -8,10 +8,10 @@ use Rattle.board_rule.specs.declared.hands.Hands.{Hands}
 use Rattle.goal_board.specs.declared.board.Right.{Right}
 use Rattle.goal_rules.specs.declared.rules.Rules.{Rules}
 use Rattle.goal_board.specs.Seats.{hands}
-use Rattle.job_turns.specs.Choices.{IsAskedByChild, IsGoalAsked, IsGoalIn, IsBestIn, IsChoice, FindsChoice}
-use Rattle.job_turns.specs.declared.modes.Native.{Native}
-use Rattle.job_turns.specs.declared.choice.Choice.{Choice}
-use Rattle.job_turns.specs.declared.choice.Choice.TheVariants.{Known, Open}
+use Rattle.job_turns.specs.Choices.{IsAskedByChild, IsGoalAsked, IsGoalIn, IsBestIn, IsKnownBest, FindsBest}
+use Rattle.job_turns.specs.declared.modes.WantedNative.{WantedNative}
+use Rattle.job_turns.specs.declared.known_best.KnownBest.{KnownBest}
+use Rattle.job_turns.specs.declared.known_best.KnownBest.TheVariants.{Known, Open}
 use Rattle.job_turns.proofs.Finding.{chooses_none, finds_two}
 use Rattle.job_turns.proofs.OneMode.{children_asked, goal_of_one, best_in}
 use Rattle.job_turns.proofs.modes.await_alternative.Goals as goal
@@ -42,26 +42,26 @@ returns-in_err-right-clause-chooses g c =
 
 pub best_in_mode-best-requires-clause-below : goal.best_in_mode-best-requires-clause-below
 best_in_mode-best-requires-clause-below g c = record {
-  left = subst (IsChoice (IsBestAsked c.args.query.now c.args.alt.left) c.await_asked.new.job.right)
+  left = subst (IsKnownBest (IsBestAsked c.args.query.now c.args.alt.left) c.await_asked.new.job.right)
       c.in-Known-Known.is-0 c.in_ok-left.ensures.chooses.is;
-  right = subst (IsChoice (IsBestAsked c.args.query.now c.args.alt.right) c.await_asked-2.new.job.right)
+  right = subst (IsKnownBest (IsBestAsked c.args.query.now c.args.alt.right) c.await_asked-2.new.job.right)
       c.in-Known-Known.is-1 c.in_ok-right.ensures.chooses.is;
 }
 
 -- the choice that the alternative comes to
-in_mode : (q : Query) (capacity : ℕ) (v : Hands Rules) (before : Right) (native : Native) (alt : Alt)
+in_mode : (q : Query) (capacity : ℕ) (v : Hands Rules) (before : Right) (native : WantedNative) (alt : Alt)
     → IsAltBy q native.expr native.wanted native.mode alt native.line
-    → (left right : Choice) (u : Hands Rules) (middle : Right) (w : Hands Rules) (after : Right)
-    → FindsChoice q capacity v before (IsGoalAsked q alt.left) (IsBestAsked q alt.left) left u middle
-    → FindsChoice q capacity u middle (IsGoalAsked q alt.right) (IsBestAsked q alt.right) right w after
-    → (choice : Choice) → IsChoice (IsBestIn q native.expr native.wanted native.mode) after choice
-    → FindsChoice q capacity v before (IsGoalIn q native.expr native.wanted native.mode)
-    (IsBestIn q native.expr native.wanted native.mode) choice w after
-in_mode q capacity v before native alt is left right u middle w after a b choice known =
+    → (left right : KnownBest) (u : Hands Rules) (middle : Right) (w : Hands Rules) (after : Right)
+    → FindsBest q capacity v before (IsGoalAsked q alt.left) (IsBestAsked q alt.left) left u middle
+    → FindsBest q capacity u middle (IsGoalAsked q alt.right) (IsBestAsked q alt.right) right w after
+    → (known_best : KnownBest) → IsKnownBest (IsBestIn q native.expr native.wanted native.mode) after known_best
+    → FindsBest q capacity v before (IsGoalIn q native.expr native.wanted native.mode)
+    (IsBestIn q native.expr native.wanted native.mode) known_best w after
+in_mode q capacity v before native alt is left right u middle w after a b known_best known =
     finds_two q capacity v before (IsGoalAsked q alt.left) (IsGoalAsked q alt.right)
     (IsGoalIn q native.expr native.wanted native.mode) (IsBestAsked q alt.left) (IsBestAsked q alt.right)
     (IsBestIn q native.expr native.wanted native.mode)
-    (goal_of_one q native.expr native.wanted native.mode alt native.line is) left right u middle w after a b choice
+    (goal_of_one q native.expr native.wanted native.mode alt native.line is) left right u middle w after a b known_best
     known
 
 pub returns-in-Known-Known-clause-chooses : goal.returns-in-Known-Known-clause-chooses
@@ -83,13 +83,14 @@ returns-in-Known-Open-clause-chooses g c =
     c.await_asked.new.job.right
     (hands c.await_asked-2.new.seat) c.await_asked-2.new.job.right c.in_ok-left.ensures.chooses
     c.in_ok-right.ensures.chooses Open
-    (subst (IsChoice (IsBestAsked c.args.query.now c.args.alt.right) c.await_asked-2.new.job.right) c.in-Known-Open.is-1
+    (subst (IsKnownBest (IsBestAsked c.args.query.now c.args.alt.right) c.await_asked-2.new.job.right)
+    c.in-Known-Open.is-1
     c.in_ok-right.ensures.chooses.is)
 
 pub returns-in-Open-default-clause-chooses : goal.returns-in-Open-default-clause-chooses
 returns-in-Open-default-clause-chooses g c =
     let waits : 1 ≤ c.await_asked.new.job.right.waits =
-    subst (IsChoice (IsBestAsked c.args.query.now c.args.alt.left) c.await_asked.new.job.right)
+    subst (IsKnownBest (IsBestAsked c.args.query.now c.args.alt.left) c.await_asked.new.job.right)
     c.in-Open-default.is-0 c.in_ok-left.ensures.chooses.is in
     let more = c.in_ok-right.ensures.chooses.awaited.proceeds.more_waits in
     in_mode c.args.query.now c.args.board.now.setup.capacity (hands c.args.seat.now) c.args.job.now.right c.args.native.now

@@ -8,7 +8,7 @@ use Rattle.goal_board.specs.Seats.{hands}
 use Rattle.goal_space.specs.Answers.{IsAnswerTo}
 use Rattle.goal_space.specs.declared.goals.GoalKind.TheVariants.{Opt}
 use Rattle.job_turns.specs.Choices.{Chooses, IsAskedByChild, IsGoalAsked}
-use Rattle.job_turns.specs.declared.choice.Choice.TheVariants.{Known}
+use Rattle.job_turns.specs.declared.known_best.KnownBest.TheVariants.{Known}
 use Rattle.job_turns.proofs.Finding.{finds_none, chooses_others}
 use Rattle.job_turns.proofs.OneMode.{goal_of_key, best_of_key, child_of_key}
 use Rattle.job_turns.proofs.modes.await_asked.Goals as goal
@@ -18,8 +18,8 @@ group-requires g c =
     let asked = subst (IsAskedByChild c.args.query.now c.args.job.now.right.goal) c.in-Some.is c.requires.asked in
     (asked.0, asked.1)
 
-pub await_choice-requires-clause-child : goal.await_choice-requires-clause-child
-await_choice-requires-clause-child g c =
+pub await_best-requires-clause-child : goal.await_best-requires-clause-child
+await_best-requires-clause-child g c =
     let asked = subst (IsAskedByChild c.args.query.now c.args.job.now.right.goal) c.in-Some.is c.requires.asked in
     child_of_key c.args.query.now c.in-Some.key c.in-Some.wanted c.group.result c.group.ensures.only
     c.args.job.now.right.goal asked
@@ -39,8 +39,8 @@ group_goal-word-requires-clause-wanted g c =
     (c.words_are_known.ensures.words c.args.query.now c.requires.at_work.has_job.board.small child.0
     (Opt asked.0 c.in-Some.wanted) c.args.job.now.right.goal child.1 child.2).1.1
 
-pub await_choice-requires-clause-word : goal.await_choice-requires-clause-word
-await_choice-requires-clause-word g c =
+pub await_best-requires-clause-word : goal.await_best-requires-clause-word
+await_best-requires-clause-word g c =
     let asked = subst (IsAskedByChild c.args.query.now c.args.job.now.right.goal) c.in-Some.is c.requires.asked in
     c.group_goal-word.ensures c.group.result (asked.1.number ∙ ap key_number (c.group.ensures.only asked.0 asked.1))
 
@@ -53,12 +53,12 @@ returns-in-Some-clause-chooses g c =
     let group = c.group.result in
     subst (λ (asked : Option (Key × Request)).
     Chooses q b.setup.capacity (hands c.args.seat.now) c.args.job.now.right (IsGoalAsked q asked) (IsBestAsked q asked)
-    c.await_choice.result (hands c.await_choice.new.seat) c.await_choice.new.job.right) (sym c.in-Some.is)
+    c.await_best.result (hands c.await_best.new.seat) c.await_best.new.job.right) (sym c.in-Some.is)
     (chooses_others q b.setup.capacity (hands c.args.seat.now) c.args.job.now.right (λ goal. goal ≡ Opt group wanted)
     (IsGoalAsked q (Some (key, wanted))) (IsAnswerTo q (Opt group wanted)) (IsBestAsked q (Some (key, wanted)))
     (goal_of_key q key wanted group c.group.ensures.only) (best_of_key q key wanted group c.group.ensures.only)
-    c.await_choice.result (hands c.await_choice.new.seat) c.await_choice.new.job.right
-    c.await_choice.ensures.chooses)
+    c.await_best.result (hands c.await_best.new.seat) c.await_best.new.job.right
+    c.await_best.ensures.chooses)
 
 pub returns-in-None-clause-chooses : goal.returns-in-None-clause-chooses
 returns-in-None-clause-chooses g c =

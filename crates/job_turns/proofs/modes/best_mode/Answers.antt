@@ -6,8 +6,8 @@ use Rattle.goal_space.specs.Answers.{IsAnswerTo}
 use Rattle.goal_space.specs.Entries.{NamesGoal}
 use Rattle.goal_space.specs.declared.goals.GoalKind.TheVariants.{OptE}
 use Rattle.xform_rules.specs.Closure.{IsMember}
-use Rattle.job_turns.specs.Choices.{IsGoalIn, IsBestIn, FindsChoice}
-use Rattle.job_turns.specs.declared.choice.Choice.{Choice}
+use Rattle.job_turns.specs.Choices.{IsGoalIn, IsBestIn, FindsBest}
+use Rattle.job_turns.specs.declared.known_best.KnownBest.{KnownBest}
 use Rattle.plan_tree.proofs.ModesTried.{all_below}
 use Rattle.job_turns.proofs.Finding.{finds_none, finds_both, finds_others, chooses_none}
 use Rattle.job_turns.proofs.Tried.{IsGoalBelow, IsBestBelow, goal_below_none, best_below_none, goal_below_more}
@@ -63,7 +63,7 @@ returns-in_err-other-clause-chooses g c =
     rw c.from_residual.ensures
     (chooses_none q c.args.board.now.setup.capacity (hands c.args.seat.now) c.args.job.now.right
     (IsGoalBelow q c.args.expr c.args.wanted c.modes.from) (IsBestBelow q c.args.expr c.args.wanted c.modes.from)
-    c.modes.choice (hands c.modes.seat) c.modes.job.right
+    c.modes.known_best (hands c.modes.seat) c.modes.job.right
     (hands c.await_mode.new.seat) c.await_mode.new.job.right c.modes.invariant.found c.in_err-other.ensures.chooses)
 
 pub modes-preserved : goal.modes-preserved
@@ -81,7 +81,7 @@ modes-preserved g c =
     let both = finds_both q b.setup.capacity (hands c.args.seat.now) c.args.job.now.right (IsGoalBelow q e wanted from)
     (IsGoalIn q e wanted mode) (IsBestBelow q e wanted from) (IsBestIn q e wanted mode)
     (IsBestBelow q e wanted (mode + 1)) joins
-    c.modes.choice c.in_ok-other.other (hands c.modes.seat) c.modes.job.right (hands c.await_mode.new.seat)
+    c.modes.known_best c.in_ok-other.other (hands c.modes.seat) c.modes.job.right (hands c.await_mode.new.seat)
     c.await_mode.new.job.right c.modes.invariant.found c.in_ok-other.ensures.chooses in
     let more = finds_others q b.setup.capacity (hands c.args.seat.now) c.args.job.now.right _
     (IsGoalBelow q e wanted (mode + 1)) (IsBestBelow q e wanted (mode + 1)) (IsBestBelow q e wanted (mode + 1))
@@ -89,10 +89,12 @@ modes-preserved g c =
     _ (hands c.await_mode.new.seat) c.await_mode.new.job.right both in
     record {
       at_work = c.await_mode.ensures.at_work;
-      found = subst (λ (choice : Choice). FindsChoice q b.setup.capacity (hands c.args.seat.now) c.args.job.now.right
-          (IsGoalBelow q e wanted (mode + 1)) (IsBestBelow q e wanted (mode + 1)) choice (hands c.await_mode.new.seat)
+      found = subst
+          (λ (known_best : KnownBest). FindsBest q b.setup.capacity (hands c.args.seat.now) c.args.job.now.right
+          (IsGoalBelow q e wanted (mode + 1)) (IsBestBelow q e wanted (mode + 1)) known_best
+          (hands c.await_mode.new.seat)
           c.await_mode.new.job.right)
-          (sym c.or-choice.ensures) more;
+          (sym c.or-known_best.ensures) more;
     }
 
 pub returns-clause-chooses : goal.returns-clause-chooses
@@ -106,4 +108,4 @@ returns-clause-chooses g c =
     (IsGoalBelow q e wanted from)
     (IsChildGoal (IsMember q) q (OptE e wanted)) (IsBestBelow q e wanted from) (IsAnswerTo q (OptE e wanted))
     (goal_below_all q e wanted from all) (best_below_all q e wanted from all (c.answers_are_best.ensures.covered q))
-    c.modes.choice (hands c.modes.seat) c.modes.job.right c.modes.invariant.found
+    c.modes.known_best (hands c.modes.seat) c.modes.job.right c.modes.invariant.found

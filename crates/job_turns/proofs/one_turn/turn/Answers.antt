@@ -4,11 +4,11 @@ use Rattle.query_core.specs.declared.query.Query.{Query}
 use Rattle.goal_board.specs.Seats.{hands}
 use Rattle.goal_board.specs.declared.board.Right.{Right}
 use Rattle.goal_rules.specs.Meaning.{meaning_of}
-use Rattle.board_moves.specs.Turns.{IsReady}
+use Rattle.board_moves.specs.Turns.{MayFinish}
 use Rattle.board_moves.proofs.Ending.{ready_after, turns_end}
 use Rattle.job_turns.specs.Searches.{HasRight}
 use Rattle.job_turns.specs.Turns.{TurnsGoal}
-use Rattle.job_turns.specs.Works.{Adds}
+use Rattle.job_turns.specs.Works.{AddsWord}
 use Rattle.job_turns.proofs.one_turn.turn.Goals as goal
 
 pub work-progress-requires-clause-at_work : goal.work-progress-requires-clause-at_work
@@ -28,9 +28,9 @@ pub end-requires-clause-ready : goal.end-requires-clause-ready
 end-requires-clause-ready g c κs within =
     let q = c.args.query.now in
     let b = c.args.board.now in
-    subst (λ (p : Query). IsReady (meaning_of p) b.setup.capacity (hands c.work-progress.new.seat).looks
+    subst (λ (p : Query). MayFinish (meaning_of p) b.setup.capacity (hands c.work-progress.new.seat).looks
     c.work-progress.new.job.right c.work-progress.result) (sym c.requires.board)
-    (ready_after (meaning_of q) b.setup.capacity (Adds q c.goal_of-goal.result) (hands c.args.seat.now)
+    (ready_after (meaning_of q) b.setup.capacity (AddsWord q c.goal_of-goal.result) (hands c.args.seat.now)
     c.of-job.result.right
     c.work-progress.result (hands c.work-progress.new.seat) c.work-progress.new.job.right
     c.work-progress.ensures.works)
@@ -43,7 +43,7 @@ returns-clause-turns g c =
     (hands c.end.new.seat)) c.of-job.ensures (record {
       goal = c.goal_of-goal.result;
       names = c.goal_of-goal.ensures;
-      turns = turns_end (meaning_of q) b.setup.capacity (Adds q c.goal_of-goal.result) (hands c.args.seat.now)
+      turns = turns_end (meaning_of q) b.setup.capacity (AddsWord q c.goal_of-goal.result) (hands c.args.seat.now)
           c.of-job.result.right c.args.worker c.work-progress.result (hands c.work-progress.new.seat)
           c.work-progress.new.job.right c.end.result
           (hands c.end.new.seat) c.work-progress.ensures.works c.end.ensures.ends;

@@ -9,9 +9,9 @@ use Rattle.goal_space.specs.Entries.{NamesGoal, IsChildWord}
 use Rattle.goal_space.specs.Words.{goal_word}
 use Rattle.goal_space.specs.declared.goals.GoalKind.TheVariants.{Imp, Opt}
 use Rattle.goal_rules.specs.Meaning.{meaning_of}
-use Rattle.job_turns.specs.Choices.{FindsChoice}
+use Rattle.job_turns.specs.Choices.{FindsBest}
 use Rattle.job_turns.specs.Requests.{IsMemberGoal, IsBestOfMembers, IsEnforcerGoal, IsPlanGoal, first_enforcers}
-use Rattle.job_turns.specs.declared.choice.Choice.{Choice}
+use Rattle.job_turns.specs.declared.known_best.KnownBest.{KnownBest}
 use Rattle.job_turns.proofs.Finding.{chooses_none, finds_both, finds_others}
 use Rattle.job_turns.proofs.Serving.{best_of_all}
 use Rattle.job_turns.proofs.requests.best_plan.Goals as goal
@@ -62,8 +62,8 @@ returns-clause-chooses g c =
     c.args.props.now c.requires.props fits) c.in_ok-enforced.enforced c.in_ok-member.member
     (hands c.best_enforcer.new.seat) c.best_enforcer.new.job.right w after c.in_ok-enforced.ensures.chooses
     c.in_ok-member.ensures.chooses in
-    subst (λ (choice : Choice). FindsChoice q b.setup.capacity v start (IsPlanGoal q group wanted)
-    (IsBest q group wanted all_nodes) choice w after) (sym c.or.ensures)
+    subst (λ (known_best : KnownBest). FindsBest q b.setup.capacity v start (IsPlanGoal q group wanted)
+    (IsBest q group wanted all_nodes) known_best w after) (sym c.or.ensures)
     (finds_others q b.setup.capacity v start _ (IsPlanGoal q group wanted) (IsBest q group wanted all_nodes)
     (IsBest q group wanted all_nodes)
     (λ child is. ⊎_elim (λ (member : IsMemberGoal q group wanted child). inr member)

@@ -4,7 +4,7 @@ use Rattle.goal_board.specs.Seats.{hands}
 use Rattle.goal_space.specs.declared.goals.GoalKind.TheVariants.{Xf}
 use Rattle.board_moves.proofs.MovesLemmas.{proceeds_none}
 use Rattle.job_turns.specs.Results.{IsBroughtWith}
-use Rattle.job_turns.specs.Works.{Adds}
+use Rattle.job_turns.specs.Works.{AddsWord}
 use Rattle.job_turns.proofs.RuleLemmas.{rule_works, results_run_out, no_left, unbound_wanted}
 use Rattle.job_turns.proofs.rule_results.apply_rule.Goals as goal
 
@@ -29,7 +29,8 @@ returns-then-put_results-clause-works g c =
     b.setup.capacity
     (hands c.args.seat.now) (hands c.args.seat.now) (hands c.put_results.new.seat) right right
     (IsBroughtWith q c.args.rule c.args.e None)
-    c.progress.result c.requires.goal (proceeds_none (Adds q (Xf c.args.e c.args.rule)) (hands c.args.seat.now) right)
+    c.progress.result c.requires.goal
+    (proceeds_none (AddsWord q (Xf c.args.e c.args.rule)) (hands c.args.seat.now) right)
     c.if-put_results.ensures.puts
     (λ none child (group, joins, left, is). absurd
     (no_left group c.left_group.result c.in-None.is ((c.left_group.ensures group).1 (joins, left))))

@@ -9,7 +9,7 @@ use Rattle.goal_space.specs.Entries.{NamesGoal}
 use Rattle.goal_space.specs.declared.goals.GoalKind.TheVariants.{Exp, Xf}
 use Rattle.goal_rules.specs.Meaning.{meaning_of}
 use Rattle.job_turns.specs.Results.{IsBroughtFrom}
-use Rattle.job_turns.specs.Works.{Adds}
+use Rattle.job_turns.specs.Works.{AddsWord}
 use Rattle.job_turns.proofs.Promises.{goes_on, runs_out}
 use Rattle.job_turns.proofs.RuleLemmas.{rule_works, results_run_out, bound_wanted, left_one, left_child}
 use Rattle.job_turns.proofs.rule_results.bind_members.Goals as goal
@@ -103,7 +103,7 @@ returns-else-put_with_members-clause-works g c =
     let awaits = c.in-Complete.ensures.awaits in
     let named : NamesGoal q middle.goal (Xf c.args.e c.args.rule) =
     subst (λ k. NamesGoal q k (Xf c.args.e c.args.rule)) (sym awaits.0.same_goal) c.requires.goal in
-    runs_out_then (Adds q (Xf c.args.e c.args.rule)) b.setup.capacity (hands c.args.seat.now) right
+    runs_out_then (AddsWord q (Xf c.args.e c.args.rule)) b.setup.capacity (hands c.args.seat.now) right
     (hands c.await_goal.new.seat) middle (hands c.put_with_members.new.seat) middle
     (goes_on q (laws.children q) c.requires.at_work.has_job.board.small (Xf c.args.e c.args.rule)
     (hands c.args.seat.now) right (hands c.await_goal.new.seat) middle c.requires.goal awaits.0)

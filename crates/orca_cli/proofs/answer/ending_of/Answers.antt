@@ -7,6 +7,6 @@ use Rattle.orca_cli.proofs.answer.ending_of.Goals as goal
 pub returns-in-Full : goal.returns-in-Full
 returns-in-Full c = λ note noted.
     IfOk-weaker c.too_many_entries.result _ _
-    (λ ending ends. full_ended (Tells c.args.generated c.args.choices c.args.asked.now.query) c.args.choices
+    (λ ending ends. full_ended (Tells c.args.generated c.args.settings c.args.asked.now.query) c.args.settings
     c.args.asked.now.query note _ ending (rw c.in-Full.is at c.requires.ends) (rw c.in-Full.is at noted) ends)
     c.too_many_entries.ensures

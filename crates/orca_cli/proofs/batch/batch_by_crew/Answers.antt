@@ -8,8 +8,8 @@ use Rattle.orca_cli.proofs.batch.batch_by_crew.Goals as goal
 pub returns-clause-ended : goal.returns-clause-ended
 returns-clause-ended g c =
     let list = c.deref.ensures.value in
-    batch_of_run c.args.listed.now.catalog c.args.choices c.args.listed.now.list.items
-    (lines_read c.deref-2.result.now) c.args.choices.workers c.in_ok-run.run' c.in_ok-batch_ending.field-0
+    batch_of_run c.args.listed.now.catalog c.args.settings c.args.listed.now.list.items
+    (lines_read c.deref-2.result.now) c.args.settings.workers c.in_ok-run.run' c.in_ok-batch_ending.field-0
     (ap lines_read c.deref-2.ensures.value ∙ c.in_ok-lines.ensures.lines ∙ ap lines_of list)
-    (subst (λ l. list_cause c.args.choices.capacity l ≡ None) list c.in_ok-lines.ensures.usable) c.in_ok-run.ensures
+    (subst (λ l. list_cause c.args.settings.capacity l ≡ None) list c.in_ok-lines.ensures.usable) c.in_ok-run.ensures
     c.in_ok-batch_ending.ensures.status c.in_ok-batch_ending.ensures.text

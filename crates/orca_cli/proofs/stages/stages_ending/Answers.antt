@@ -14,7 +14,7 @@ use Rattle.orca_cli.proofs.stages.stages_ending.Goals as goal
 pub returns-in-Least : goal.returns-in-Least
 returns-in-Least g c =
     let q = c.args.staged.now.asked.query in
-    let capacity = c.args.choices.capacity in
+    let capacity = c.args.settings.capacity in
     let stages = c.as_slice-stages.result.now in
     let ran = c.in_ok-found.field-0.ran in
     let number = c.in-Least.stage in
@@ -38,7 +38,7 @@ returns-in-Least g c =
 pub returns-in-NoPlan : goal.returns-in-NoPlan
 returns-in-NoPlan g c =
     let q = c.args.staged.now.asked.query in
-    let capacity = c.args.choices.capacity in
+    let capacity = c.args.settings.capacity in
     let stages = c.as_slice-stages.result.now in
     let ran = c.in_ok-found.field-0.ran in
     let run = subst (λ f. IsStagedRun q capacity stages (record { found = f; ran = c.in_ok-found.field-0.ran }))

@@ -37,7 +37,7 @@ returns-in-Ok-replayed_by_crew g c = λ named shelf is.
 -- the list was refused
 pub returns-in-Err-batch_by_crew : goal.returns-in-Err-batch_by_crew
 returns-in-Err-batch_by_crew g c = λ named shelf is.
-    ends_then (IsListRefused c.args.wanted.now.command.choices.capacity c.in-List.listed.list.items)
+    ends_then (IsListRefused c.args.wanted.now.command.settings.capacity c.in-List.listed.list.items)
     (IsRun named shelf c.args.note.now c.args.note.now) c.in-Err-batch_by_crew.end
     (λ s t why. refused_run named shelf c.args.note.now c.args.wanted.now c.in-List.listed c.in-List.is is s t why)
     c.in-Err-batch_by_crew.ensures.stops

@@ -11,5 +11,5 @@ returns-in-Err c = λ n small written. c.in-Err.ensures.cases.0
     (subst IsUtf8 (sym written) (IsUtf8-from_ascii (decimal n) (IsAscii-decimal n small)))
 
 pub returns-in-Ok : goal.returns-in-Ok
-returns-in-Ok c = subst (λ w. MatchOption c.number_of.result ((n : ℕ) → n < 2 ^ 64 → w ≡ decimal n → ⊥)
-    (λ n. (w ≡ decimal n) × (n < 2 ^ 64))) c.in-Ok.ensures.cases.0 c.number_of.ensures
+returns-in-Ok c = subst (λ w. MatchOption c.plain_number.result ((n : ℕ) → n < 2 ^ 64 → w ≡ decimal n → ⊥)
+    (λ n. (w ≡ decimal n) × (n < 2 ^ 64))) c.in-Ok.ensures.cases.0 c.plain_number.ensures

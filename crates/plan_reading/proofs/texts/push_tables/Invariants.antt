@@ -1,6 +1,6 @@
-use Rattle.plan_reading.specs.Texts.{Adds, IsOfTables}
+use Rattle.plan_reading.specs.Texts.{AddsNodeTexts, IsOfTables}
 use Rattle.plan_reading.proofs.texts.push_tables.Given as goal
 
 -- those below this number were added
 abbrev pub invariant-loop-table : goal.invariant-loop-table
-invariant-loop-table l = Adds l.query (IsOfTables l.table) l.fn.texts.items l.texts.items
+invariant-loop-table l = AddsNodeTexts l.query (IsOfTables l.table) l.fn.texts.items l.texts.items

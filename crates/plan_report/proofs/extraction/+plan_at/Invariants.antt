@@ -1,5 +1,5 @@
 use Rattle.goal_space.specs.Ranks.{rank_of}
-use Rattle.plan_report.specs.Links.{goal_of}
+use Rattle.plan_report.specs.PlansAsked.{goal_of}
 use Rattle.plan_report.proofs.extraction.+plan_at.Given as goal
 
 -- what a node is linked to has a lesser rank

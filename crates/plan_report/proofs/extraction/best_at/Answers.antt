@@ -3,13 +3,13 @@ use Rattle.best_answers.specs.Best.{IsBest}
 use Rattle.best_answers.specs.Nodes.{all_nodes}
 use Rattle.goal_space.specs.Answers.{IsAnswerTo, TellsAnswer}
 use Rattle.goal_space.specs.Words.{goal_word}
-use Rattle.plan_report.specs.Links.{goal_of}
+use Rattle.plan_report.specs.PlansAsked.{goal_of}
 use Rattle.plan_report.proofs.extraction.best_at.Goals as goal
 
 -- what is told under the goal's word is the answer of this goal and of no other
 pub returns : goal.returns
 returns c =
-    let q = c.args.source.query.now in
+    let q = c.args.extraction.query.now in
     let here = goal_of c.args.at in
     let (place, near, at) = c.answer_to.ensures.told in
     let found : TellsAnswer q c.answer_to.result =

@@ -8,12 +8,12 @@ use Rattle.request_props.specs.declared.request.Request.{Request}
 use Rattle.plan_space.specs.Cost.{cost_of}
 use Rattle.plan_space.specs.Least.{HasNoPlan}
 use Rattle.goal_space.specs.Goals.{IsGoal, root_goal}
-use Rattle.plan_report.specs.declared.links.Linked.{Linked}
-use Rattle.plan_report.specs.Links.{IsLeastAt, goal_of}
+use Rattle.plan_report.specs.declared.plans_asked.PlanAsked.{PlanAsked}
+use Rattle.plan_report.specs.PlansAsked.{IsLeastAt, goal_of}
 use Rattle.plan_report.proofs.Chosen.{best_chosen, none_chosen}
 use Rattle.plan_report.proofs.extraction.extract.Goals as goal
 
-abbrev root_at : Query → Linked
+abbrev root_at : Query → PlanAsked
 root_at q = record { group = root_of q; wanted = root_request q }
 
 is_root : (q : Query) (group : KeyParts) (wanted : Request) → root_of q ≡ group → wanted ≡ root_request q
@@ -37,7 +37,7 @@ plan_at-requires-clause-goal c =
 pub plan_at-requires-clause-there : goal.plan_at-requires-clause-there
 plan_at-requires-clause-there c =
     let q = c.args.query.now in
-    let at : Linked = record { group = c.group.result; wanted = c.args.props.now.root } in
+    let at : PlanAsked = record { group = c.group.result; wanted = c.args.props.now.root } in
     let root = is_root q c.group.result c.args.props.now.root (c.group.ensures.only (root_of q) c.root.ensures)
     (c.root_request_is_collected.ensures q c.args.props.now c.requires.props) in
     let is_goal = subst (λ a. IsGoal q (goal_of a)) root root_goal in
@@ -50,7 +50,7 @@ plan_at-requires-clause-there c =
 pub returns-in_ok-plan_at-in-Some : goal.returns-in_ok-plan_at-in-Some
 returns-in_ok-plan_at-in-Some c =
     let q = c.args.query.now in
-    let at : Linked = record { group = c.group.result; wanted = c.args.props.now.root } in
+    let at : PlanAsked = record { group = c.group.result; wanted = c.args.props.now.root } in
     let root = is_root q c.group.result c.args.props.now.root (c.group.ensures.only (root_of q) c.root.ensures)
     (c.root_request_is_collected.ensures q c.args.props.now c.requires.props) in
     let is_goal = subst (λ a. IsGoal q (goal_of a)) root root_goal in
@@ -65,7 +65,7 @@ returns-in_ok-plan_at-in-Some c =
 pub returns-in-None : goal.returns-in-None
 returns-in-None c =
     let q = c.args.query.now in
-    let at : Linked = record { group = c.group.result; wanted = c.args.props.now.root } in
+    let at : PlanAsked = record { group = c.group.result; wanted = c.args.props.now.root } in
     let root = is_root q c.group.result c.args.props.now.root (c.group.ensures.only (root_of q) c.root.ensures)
     (c.root_request_is_collected.ensures q c.args.props.now c.requires.props) in
     let is_goal = subst (λ a. IsGoal q (goal_of a)) root root_goal in

@@ -16,7 +16,7 @@ use Rattle.plan_search.proofs.enforcers.try_enforcer_at.Goals as goal
 pub one_plan-requires : goal.one_plan-requires
 one_plan-requires c =
     let q = c.args.search.query.now in
-    let named : keys.Names q c.make-key.result c.args.group =
+    let named : keys.NamesGroup q c.make-key.result c.args.group =
     record { number = c.make-key.ensures.number; known = c.requires.known } in
     let found = some_enforced c.in-Some.found (slice_get (enforcers_of c.args.wanted) c.args.n)
     (subst (λ r. IsEnforced r (slice_get (enforcers_of c.args.wanted) c.args.n)) c.in-Some.is
@@ -36,7 +36,7 @@ pub returns-in-Some-one_plan : goal.returns-in-Some-one_plan
 returns-in-Some-one_plan c =
     let q = c.args.search.query.now in
     let answers = c.args.search.answers.now in
-    let named : keys.Names q c.make-key.result c.args.group =
+    let named : keys.NamesGroup q c.make-key.result c.args.group =
     record { number = c.make-key.ensures.number; known = c.requires.known } in
     let found = some_enforced c.in-Some.found (slice_get (enforcers_of c.args.wanted) c.args.n)
     (subst (λ r. IsEnforced r (slice_get (enforcers_of c.args.wanted) c.args.n)) c.in-Some.is
@@ -60,7 +60,7 @@ pub returns-in_default-one_plan : goal.returns-in_default-one_plan
 returns-in_default-one_plan c =
     let q = c.args.search.query.now in
     let answers = c.args.search.answers.now in
-    let named : keys.Names q c.make-key.result c.args.group =
+    let named : keys.NamesGroup q c.make-key.result c.args.group =
     record { number = c.make-key.ensures.number; known = c.requires.known } in
     let found = some_enforced c.in-Some.found (slice_get (enforcers_of c.args.wanted) c.args.n)
     (subst (λ r. IsEnforced r (slice_get (enforcers_of c.args.wanted) c.args.n)) c.in-Some.is
@@ -76,7 +76,7 @@ returns-in_default-one_plan c =
 pub returns-in_default : goal.returns-in_default
 returns-in_default c =
     let q = c.args.search.query.now in
-    let named : keys.Names q c.make-key.result c.args.group =
+    let named : keys.NamesGroup q c.make-key.result c.args.group =
     record { number = c.make-key.ensures.number; known = c.requires.known } in
     let none = none_enforced (slice_get (enforcers_of c.args.wanted) c.args.n)
     (subst (λ r. IsEnforced r (slice_get (enforcers_of c.args.wanted) c.args.n)) c.in_default.is

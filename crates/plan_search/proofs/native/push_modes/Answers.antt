@@ -1,6 +1,6 @@
 use Rattle.std.proofs.Common.{◌∙◌, ap, ◌∷◌, [], ◌++◌, refl, arith}
 use Rattle.std.proofs.lemmas.List.{append_assoc}
-use Rattle.plan_search.specs.declared.native.Native.{Native}
+use Rattle.plan_search.specs.declared.native.NativeNode.{NativeNode}
 use Rattle.plan_search.proofs.ModesMade.{mode_pushed, modes_passed}
 use Rattle.plan_search.proofs.native.push_modes.Goals as goal
 
@@ -12,7 +12,7 @@ modes-preserved c =
     let mode = c.in-Some.mode in
     let modes = c.modes.invariant.1 in
     let step = c.in-Some.ensures in
-    let p : Native = record { expr = e; mode = mode; line = c.in-Some.line; rows = c.expr_rows-rows.result } in
+    let p : NativeNode = record { expr = e; mode = mode; line = c.in-Some.line; rows = c.expr_rows-rows.result } in
     let passed = modes_passed q e c.modes.from mode modes step.0 step.2 c.modes.invariant.2 in (
       omega (arith, step.1),
       modes ++ p ∷ [],

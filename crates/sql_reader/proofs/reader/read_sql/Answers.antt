@@ -1,5 +1,5 @@
 use Rattle.std.proofs.Common.{◌≡◌, ◌≤◌, ◌^◌, length, arith, rules}
-use Rattle.orca_base.specs.Checked.{Gives}
+use Rattle.orca_base.specs.Checked.{Yields}
 use Rattle.sql_reader.specs.declared.faults.SqlFault.TheVariants.{Memory}
 use Rattle.sql_reader.specs.Reading.{parse_at}
 use Rattle.sql_reader.specs.Outcome.{first_bad, stuck_at, earlier, outcome}
@@ -22,7 +22,7 @@ returns-clause-ok c =
     let before : c.earlier_fault-before.result ≡ earlier (first_bad 0 text) (stuck_at rest (length text)) =
     search rules in
     let stream : c.of.result ≡ tokens = search rules in
-    let answered : Gives Memory (outcome (earlier (first_bad 0 text) (stuck_at rest (length text))) (parse_at tokens)
+    let answered : Yields Memory (outcome (earlier (first_bad 0 text) (stuck_at rest (length text))) (parse_at tokens)
     (length text)) c.answer.result =
     rw (before, stream) at c.answer.ensures in
     ok_right text tokens rest c.in_ok-tokens.ensures short c.answer.result _ answered
@@ -37,7 +37,7 @@ returns-clause-fault c =
     let before : c.earlier_fault-before.result ≡ earlier (first_bad 0 text) (stuck_at rest (length text)) =
     search rules in
     let stream : c.of.result ≡ tokens = search rules in
-    let answered : Gives Memory (outcome (earlier (first_bad 0 text) (stuck_at rest (length text))) (parse_at tokens)
+    let answered : Yields Memory (outcome (earlier (first_bad 0 text) (stuck_at rest (length text))) (parse_at tokens)
     (length text)) c.answer.result =
     rw (before, stream) at c.answer.ensures in
     err_right text tokens rest c.in_ok-tokens.ensures short c.answer.result _ answered

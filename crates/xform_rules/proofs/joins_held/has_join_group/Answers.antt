@@ -1,6 +1,6 @@
 use Rattle.std.proofs.Common.{refl, sym, subst, ◌∙◌, ◌↔◌}
 use Rattle.std.proofs.lemmas.Bool.{false≢true}
-use Rattle.xform_rules.specs.OneOrder.{BeginsWith, LeadsTo}
+use Rattle.xform_rules.specs.OneOrder.{CutsDownTo, LeadsTo}
 use Rattle.xform_rules.specs.Splits.{HasJoinGroup}
 use Rattle.xform_rules.proofs.HeldJoins.{group_without, group_alone}
 use Rattle.xform_rules.proofs.joins_held.has_join_group.Goals as goal
@@ -9,8 +9,8 @@ use Rattle.xform_rules.proofs.joins_held.has_join_group.Goals as goal
 pub returns-then-not-is_on : goal.returns-then-not-is_on
 returns-then-not-is_on c =
     let q = c.args.query.now in
-    let groups : BeginsWith q c.all.result c.args.set ↔ HasJoinGroup q c.args.set =
-    subst (λ x. BeginsWith q x c.args.set ↔ HasJoinGroup q c.args.set) (sym c.all.ensures)
+    let groups : CutsDownTo q c.all.result c.args.set ↔ HasJoinGroup q c.args.set =
+    subst (λ x. CutsDownTo q x c.args.set ↔ HasJoinGroup q c.args.set) (sym c.all.ensures)
     (group_without q (c.members_are_candidates.ensures q) c.args.set c.requires
     (λ on. false≢true (sym c.if-not-is_on.true ∙ c.is_on.ensures.1 on))) in
     (λ yes. groups.0 (c.begins_with.ensures.0 yes), λ member. c.begins_with.ensures.1 (groups.1 member))

@@ -1,6 +1,6 @@
 use Rattle.std.proofs.Common.{refl, sym, subst}
 use Rattle.std.proofs.lemmas.Bool.{false≢true}
-use Rattle.xform_rules.specs.OneOrder.{BeginsWith, begun, less}
+use Rattle.xform_rules.specs.OneOrder.{CutsDownTo, begun, less}
 use Rattle.xform_rules.proofs.Beginnings.{begins_next, begins_cut}
 use Rattle.xform_rules.proofs.one_order.begins_with.Goals as goal
 
@@ -28,7 +28,7 @@ returns-in-None c = (
 -- what is left begins with itself
 pub returns : goal.returns
 returns c = (
-  λ yes. c.loop-left.invariant.onto (subst (BeginsWith c.args.query.now c.loop-left.left) c.loop-left-test.false
+  λ yes. c.loop-left.invariant.onto (subst (CutsDownTo c.args.query.now c.loop-left.left) c.loop-left-test.false
       (begun c.loop-left.left)),
   λ begins. refl,
 )

@@ -3,7 +3,7 @@ use Rattle.std.proofs.Common.{ℕ, Result, Ok, Err, IfOk, subst}
 use Rattle.std.specs.Slots.{slots_items}
 use Rattle.board_rule.specs.Meaning.{Meaning}
 use Rattle.board_rule.specs.Words.{Mem, mem}
-use Rattle.board_rule.specs.Rule.{IsSound}
+use Rattle.board_rule.specs.Soundness.{IsSound}
 use Rattle.board_rule.specs.declared.law.Setup.{Setup}
 use Rattle.goal_board.specs.Seats.{hands}
 use Rattle.goal_board.specs.Closed.{HasWorkers, ReadsBoard, ClosesWith}

@@ -1,6 +1,6 @@
 -- A board whose words are all 0 is sound.
 use Rattle.std.proofs.Common.{[], ◌∷◌, sym, subst, ◌∙◌}
-use Rattle.board_rule.specs.Rule.{IsSound}
+use Rattle.board_rule.specs.Soundness.{IsSound}
 use Rattle.board_rule.specs.Seats.{opening_hands}
 use Rattle.board_rule.proofs.Opening.{start_sound}
 use Rattle.goal_board.proofs.board.Board.start.Goals as goal

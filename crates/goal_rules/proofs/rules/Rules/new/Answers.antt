@@ -1,12 +1,12 @@
 use Rattle.goal_space.specs.Goals.{IsGoal}
-use Rattle.goal_space.specs.Words.{IsInRange}
+use Rattle.goal_space.specs.Words.{IsGoalInRange}
 use Rattle.goal_space.specs.declared.goals.GoalKind.{GoalKind}
 use Rattle.goal_rules.proofs.Falling.{word_ranks_fall}
 use Rattle.goal_rules.proofs.OneAnswer.{answers_one}
 use Rattle.goal_rules.proofs.rules.Rules.new.Goals as goal
 
 -- a query with props has few lists and orders, so its goals have words
-in_range : (c : goal.After-ranks_are_known) → (k : GoalKind) → IsGoal c.args.query.now k → IsInRange k
+in_range : (c : goal.After-ranks_are_known) → (k : GoalKind) → IsGoal c.args.query.now k → IsGoalInRange k
 in_range c k is_goal = c.goals_are_known.ensures.words c.args.query.now c.requires.few_lists c.requires.few_orders k
     is_goal
 

@@ -1,12 +1,12 @@
 use Rattle.std.proofs.Common.{◌-◌, ◌≤◌, length}
 use Rattle.query_core.specs.declared.query.Query.{Query}
-use Rattle.job_trace.specs.Pieces.{AreKept}
+use Rattle.job_trace.specs.Pieces.{AreWritten}
 use Rattle.job_trace.proofs.pieces.Pieces.new.Given as goal
 
 -- the places so far hold nothing, and are no more than wanted
 abbrev pub invariant-loop-places : goal.invariant-loop-places
 invariant-loop-places l = record {
-  kept : (q : Query) → AreKept q l.places.items;
+  kept : (q : Query) → AreWritten q l.places.items;
   few : length l.places.items ≤ l.count;
 }
 

@@ -1,7 +1,7 @@
 use Rattle.std.proofs.Common.{arith, sym, subst, ap, ◌∙◌, ◌≡◌}
 use Rattle.query_core.specs.declared.words.KeyParts.TheVariants.{Join}
 use Rattle.query_core.specs.declared.expressions.Children.TheVariants.{Two}
-use Rattle.query_core.specs.Keys.{IsInRange, top_of}
+use Rattle.query_core.specs.Keys.{IsGroupInRange, top_of}
 use Rattle.query_core.specs.Expressions.{left_number, FallsInto}
 use Rattle.query_core.specs.Finding.{left_of, FindsFrom, IsAt, IsJoined, IsOver}
 use Rattle.query_core.proofs.GroupLemmas.{group_in_range}
@@ -37,7 +37,7 @@ next_over-requires-clause-in_range c =
     let q = c.args.self.now in
     let known = sides_in_range q c.args.set (group_in_range q (Join c.args.set) c.requires) c.in_ok-a.a c.in_ok-b.b
     c.in_ok-b.ensures in
-    (subst IsInRange (sym c.top_group.ensures) known.0, subst IsInRange (sym c.top_group-2.ensures) known.1)
+    (subst IsGroupInRange (sym c.top_group.ensures) known.0, subst IsGroupInRange (sym c.top_group-2.ensures) known.1)
 
 -- it falls into these, and into no others of which the left one has this number
 pub returns : goal.returns

@@ -1,5 +1,5 @@
 use Rattle.std.proofs.Common.{rules, arith, sym, ap, ◌∙◌, ◌≡◌, subst}
-use Rattle.query_core.specs.Keys.{top_of, tables_of, key_number, IsInRange}
+use Rattle.query_core.specs.Keys.{top_of, tables_of, key_number, IsGroupInRange}
 use Rattle.query_core.specs.declared.words.KeyParts.TheVariants.{Join}
 use Rattle.query_core.proofs.Splitting.{tables_top, top_in_range, number_top, tables_small}
 use Rattle.query_core.proofs.query.Query.left_side.Goals as goal
@@ -17,7 +17,7 @@ returns-then-eq c =
     let q = c.args.self.now in
     let same : c.top_group.result ≡ c.in_ok-group.group = search rules in
     let joined : top_of q c.tables-set.result ≡ c.in_ok-group.group = sym c.top_group.ensures ∙ same in (
-      subst (λ x. IsInRange (Join x)) (sym c.tables-set.ensures)
+      subst (λ x. IsGroupInRange (Join x)) (sym c.tables-set.ensures)
           (tables_small c.in_ok-group.group c.in_ok-group.ensures.0),
       omega (arith, ap key_number joined, c.in_ok-group.ensures.1, c.if-number-eq0.false),
     )

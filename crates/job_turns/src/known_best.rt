@@ -1,0 +1,147 @@
+//! What is known of the best plan for a request while its goal is at work.
+#![tactic(auto)]
+
+ghost use Rattle.std.specs.Prelude.{◌≡◌, ◌<◌, ◌-◌, ◌^◌, Option, IfSome};
+ghost use Rattle.query_core.specs.declared.query.Query.{Query as AnyQuery};
+ghost use Rattle.goal_board.specs.Seats.{hands};
+ghost use Rattle.goal_space.specs.Answers.{IsAnswerTo};
+ghost use Rattle.goal_space.specs.Words.{goal_word};
+ghost use Rattle.goal_rules.specs.Answers.{AreWordsOf};
+ghost use Rattle.best_answers.specs.declared.best.Best.{Best as AnyBest};
+ghost use Rattle.job_turns.specs.Searches.{IsAtWork};
+ghost use Rattle.job_turns.specs.Works.{IsChildOf};
+ghost use Rattle.job_turns.specs.Choices.{best_of_both, most_word, AnswersAreKnown, Chooses, IsProgressOf};
+ghost use Rattle.job_turns.specs.Choices.{PutsChildren};
+
+use crate::laws::words_are_known;
+use crate::over_query::await_word;
+use best_answers::{Best, answers_are_best, lesser};
+use board_moves::{Job, Progress, put_goal};
+use goal_board::{Answer, Board, Hints, Inserted, Seat};
+use goal_rules::Rules;
+use goal_space::{GoalKind, goal_kinds_are_one, goals_are_known};
+use plan_tree::Node;
+use query_core::{Goal, Query};
+
+/// What is known of the best answer of some nodes for a request.
+#[derive(Clone, Copy)]
+pub(crate) enum KnownBest {
+    /// This is it; none where none of them makes a plan.
+    Known(Option<Best>),
+    /// One of them stands on a plan that isn't chosen yet.
+    Open,
+}
+
+impl KnownBest {
+    /// What is known of the best answer of both.
+    pub(crate) fn or(self, other: KnownBest) -> KnownBest
+        ensures { result ≡ best_of_both self other }
+    {
+        match (self, other) {
+            (KnownBest::Known(first), KnownBest::Known(second)) => KnownBest::Known(lesser(
+                first, second,
+            )),
+            (KnownBest::Known(_), KnownBest::Open) => KnownBest::Open,
+            (KnownBest::Open, _) => KnownBest::Open,
+        }
+    }
+}
+
+/// Awaits a child of the goal, which has this word, and tells its answer. None where it found every cell taken.
+pub(crate) fn await_best<'q, H: Hints>(
+    query: &Query,
+    board: &Board<Rules<'q>>,
+    seat: &mut Seat<Rules<'q>>,
+    job: &mut Job,
+    child: GoalKind,
+    word: Goal,
+    hints: &mut H,
+) -> Option<KnownBest>
+    requires at_work { IsAtWork query.now board.now seat.old job.old (H.capacity hints.old) }
+    requires child { IsChildOf query.now job.old.right.goal child }
+    requires word { goal_word child ≡ word.0 }
+    ensures at_work { IsAtWork query.now board.now seat.new job.new (H.capacity hints.new) }
+    ensures chooses { Chooses query.now board.now.setup.capacity (hands seat.old) job.old.right
+        (λ goal. goal ≡ child) (IsAnswerTo query.now child) result (hands seat.new) job.new.right }
+{
+    // For the proof: the words of an answer tell it.
+    answers_are_known();
+    match await_word(query, board, seat, job, child, word, hints) {
+        Progress::Complete(answer) => Some(KnownBest::Known(best_of(answer))),
+        Progress::Waiting => Some(KnownBest::Open),
+        Progress::Full => None,
+    }
+}
+
+/// Puts in a child of the goal. False where it found every cell taken.
+pub(crate) fn put_child<'q, H: Hints>(
+    query: &Query,
+    board: &Board<Rules<'q>>,
+    seat: &mut Seat<Rules<'q>>,
+    job: &Job,
+    child: GoalKind,
+    hints: &mut H,
+) -> bool
+    requires at_work { IsAtWork query.now board.now seat.old job.now (H.capacity hints.old) }
+    requires child { IsChildOf query.now job.now.right.goal child }
+    ensures at_work { IsAtWork query.now board.now seat.new job.now (H.capacity hints.new) }
+    ensures puts { PutsChildren query.now board.now.setup.capacity (hands seat.old) job.now.right
+        result (hands seat.new) }
+{
+    // For the proof: a child of a goal has a word.
+    words_are_known();
+    match put_goal(board, seat, child.word().0, hints) {
+        Inserted::Full => false,
+        _ => true,
+    }
+}
+
+/// How far the goal is, where this was found.
+pub(crate) fn progress_of(job: &Job, found: Option<KnownBest>) -> Progress
+    ensures { IsProgressOf job.now.right found result }
+{
+    match found {
+        Some(KnownBest::Known(best)) => job.progress(answer_of(best)),
+        Some(KnownBest::Open) => Progress::Waiting,
+        None => Progress::Full,
+    }
+}
+
+// The answer that these words are.
+fn best_of(answer: Answer) -> Option<Best>
+    ensures { (best : Option AnyBest) → AreWordsOf best answer.cost answer.node →
+        IfSome best (λ b. b.cost < most_word) → result ≡ best }
+{
+    if answer.cost == u64::MAX {
+        return None;
+    }
+    Some(Best {
+        cost: answer.cost,
+        node: Node(answer.node),
+    })
+}
+
+// The words of an answer.
+fn answer_of(best: Option<Best>) -> Answer
+    ensures { AreWordsOf best result.cost result.node }
+{
+    match best {
+        Some(best) => Answer {
+            cost: best.cost,
+            node: best.node.0,
+        },
+        None => Answer {
+            cost: u64::MAX,
+            node: 0,
+        },
+    }
+}
+
+// The words of the answer of a goal of the query tell it.
+fn answers_are_known()
+    ensures { (q : AnyQuery) → AnswersAreKnown q }
+{
+    goal_kinds_are_one();
+    goals_are_known();
+    answers_are_best();
+}
