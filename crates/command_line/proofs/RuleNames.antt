@@ -5,7 +5,7 @@ use Rattle.std.specs.List.{find}
 use Rattle.std.proofs.lemmas.Slice.Eq.{bytes_eq-Decides}
 use Rattle.xform_rules.specs.Rules.{all_rules, rule_name}
 use Rattle.xform_rules.specs.declared.rules.Rule.{Rule}
-use Rattle.xform_rules.proofs.TaskNames.{first_named}
+use Rattle.xform_rules.proofs.Names.{first_named}
 use Rattle.command_line.specs.Reading.{rule_of_name}
 
 -- a rule's name is the name of that rule
