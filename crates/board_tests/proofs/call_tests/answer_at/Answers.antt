@@ -3,8 +3,8 @@ use Rattle.goal_board.specs.Seats.{hands}
 use Rattle.board_tests.proofs.Still.{rights_read, parts_read}
 use Rattle.board_tests.proofs.call_tests.answer_at.Goals as goal
 
-pub returns-clause-seat : goal.returns-clause-seat
-returns-clause-seat g c =
+pub returns : goal.returns
+returns g c =
     let meaning = g.R.GoalRules.meaning c.args.board.now.setup.rules in
     let capacity = c.args.board.now.setup.capacity in
     let before = hands c.args.seat.now in
