@@ -10,7 +10,9 @@ returns g c =
     let before = hands c.args.seat.now in
     let after = hands c.answer.new.seat in
     record {
-      of_board = c.answer.ensures.seat;
-      rights = rights_read meaning capacity before c.args.at c.answer.result after c.answer.ensures.answer;
-      parts = parts_read meaning capacity before c.args.at c.answer.result after c.answer.ensures.answer;
+      seat = record {
+        of_board = c.answer.ensures.seat;
+        rights = rights_read meaning capacity before c.args.at c.answer.result after c.answer.ensures.answer;
+        parts = parts_read meaning capacity before c.args.at c.answer.result after c.answer.ensures.answer;
+      };
     }
