@@ -3,8 +3,9 @@
 
 Usage: tools/build_libraries.py CRATE [LIST]
 
-LIST gets the names of all files and folders that the crate is made from, each ended by a zero byte; its time is the
-moment before they were looked for.
+LIST gets the names of all files and folders of code and definitions that the crate is made from, each ended by a zero
+byte; its time is the moment before they were looked for. Proofs aren't among them: what was proved of the same code and
+definitions stays proved.
 
 It prints a line as it begins with a library, and where one fails, all that `rt lib` said of it; it then begins with no
 further one, and ends with the status 1. One whose build began after the last change of its sources and of those of all
@@ -20,7 +21,8 @@ import tempfile
 from concurrent.futures import FIRST_COMPLETED, ThreadPoolExecutor, wait
 
 TOP = os.path.dirname(os.path.dirname(os.path.abspath(__file__)))
-SOURCES = ["src", "specs", "proofs"]
+CODE_AND_DEFINITIONS = ["src", "specs"]
+SOURCES = [*CODE_AND_DEFINITIONS, "proofs"]
 PROCESSORS = os.cpu_count() or 1
 
 
@@ -45,9 +47,9 @@ def crates_below(name):
     return below
 
 
-def sources_of(crate):
-    """The files and folders that the crate's library is made from, by their names below the repository."""
-    for part in SOURCES:
+def sources_of(crate, parts=SOURCES):
+    """The files and folders of these parts of the crate, by their names below the repository."""
+    for part in parts:
         for at, folders, names in os.walk(os.path.join(TOP, "crates", crate, part)):
             folder = os.path.relpath(at, TOP)
             yield folder
@@ -65,9 +67,9 @@ def set_time(file, time):
 
 
 def write_list(crates, file):
-    """Writes the names of all that these crates are made from. The file's time is the moment before."""
+    """Writes the names of the code and the definitions of these crates. The file's time is the moment before."""
     before = time_now(file)
-    names = ["crates.txt", *(name for crate in crates for name in sources_of(crate))]
+    names = ["crates.txt", *(name for crate in crates for name in sources_of(crate, CODE_AND_DEFINITIONS))]
     with open(file, "w") as out:
         out.writelines(f"{name}\0" for name in names)
     set_time(file, before)

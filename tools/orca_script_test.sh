@@ -11,7 +11,7 @@ export ORCA_PROVED_ONLY=1
 make_checkout() {
   checkout=$(mktemp -d)
   mkdir -p "$checkout/crates/orca/src" "$checkout/crates/orca/out" "$checkout/bin" "$checkout/tools"
-  mkdir -p "$checkout/crates/low/specs" "$checkout/crates/high" "$checkout/crates/beside"
+  mkdir -p "$checkout/crates/low/specs" "$checkout/crates/low/proofs" "$checkout/crates/high" "$checkout/crates/beside"
   cp "$top/orca" "$checkout/orca"
   cp "$top/tools/build_libraries.py" "$top/tools/answer_unproved.py" "$checkout/tools"
   printf '%s\n' "# a comment" "orca: high std" "low:" "high may_wait=1: low" "beside: low" > "$checkout/crates.txt"
@@ -19,6 +19,7 @@ make_checkout() {
   chmod +x "$checkout/crates/orca/out/orca"
   echo "fn main() {}" > "$checkout/crates/orca/src/main.rt"
   echo "-- a definition" > "$checkout/crates/low/specs/Low.antt"
+  echo "-- a proof" > "$checkout/crates/low/proofs/Low.antt"
   make_rt "$1"
 }
 
@@ -112,6 +113,11 @@ expect "a folder that was deleted is seen" 125 "" "called again"
 make_built_checkout
 echo "-- another" > "$checkout/crates/low/specs/Other.antt"
 expect "a source that was added is seen" 125 "" "called again"
+
+make_built_checkout
+echo "-- another proof" > "$checkout/crates/low/proofs/Low.antt"
+echo "-- one more" > "$checkout/crates/low/proofs/More.antt"
+expect "where only proofs changed the program stays proved and is started" 0 "word of fn main() {}" ""
 
 make_built_checkout
 echo "-- an old one" > "$checkout/crates/low/specs/Low.antt"
