@@ -11,9 +11,10 @@ export ORCA_PROVED_ONLY=1
 make_checkout() {
   checkout=$(mktemp -d)
   mkdir -p "$checkout/crates/orca/src" "$checkout/crates/orca/out" "$checkout/bin" "$checkout/tools"
-  mkdir -p "$checkout/crates/low/specs" "$checkout/crates/low/proofs" "$checkout/crates/high" "$checkout/crates/beside"
-  cp "$top/orca" "$checkout/orca"
-  cp "$top/tools/build_libraries.py" "$top/tools/answer_unproved.py" "$checkout/tools"
+  mkdir -p "$checkout/crates/low/specs" "$checkout/crates/low/proofs" "$checkout/crates/low/must-fail"
+  mkdir -p "$checkout/crates/high" "$checkout/crates/beside"
+  cp "$top/orca" "$top/HANDLES" "$checkout"
+  cp "$top/tools/build_program.py" "$top/tools/answer_unproved.py" "$checkout/tools"
   printf '%s\n' "# a comment" "orca: high std" "low:" "high may_wait=1: low" "beside: low" > "$checkout/crates.txt"
   printf '#!/bin/sh\necho stale\n' > "$checkout/crates/orca/out/orca"
   chmod +x "$checkout/crates/orca/out/orca"
@@ -24,17 +25,17 @@ make_checkout() {
 }
 
 make_rt() {
-  printf '#!/bin/sh\n%s\n' "$1" > "$checkout/bin/rt"
+  printf '#!/bin/sh\nat=${0%%/bin/rt}\n%s\n' "$1" > "$checkout/bin/rt"
   chmod +x "$checkout/bin/rt"
 }
 
 # A command rt that builds a program, which prints its first word and what the source says. What stands in the file
 # `during` is done once in the middle of the build.
-builds='at=${0%/bin/rt}; echo "$1" >> "$at/calls"
-[ "$1" != run ] && exit 0
-text=$(cat src/main.rt)
+builds='echo "$1" >> "$at/calls"
+text=$(cat crates/orca/src/main.rt)
 [ -e "$at/during" ] && mv "$at/during" "$at/done" && . "$at/done"
-{ echo "#!/bin/sh"; echo "echo \"\$1 of $text\""; } > out/orca; chmod +x out/orca'
+mkdir crates/orca/out
+{ echo "#!/bin/sh"; echo "echo \"\$1 of $text\""; } > crates/orca/out/orca; chmod +x crates/orca/out/orca'
 
 # A checkout whose program has just been built, and a command rt that then fails.
 make_built_checkout() {
@@ -65,32 +66,23 @@ expect_kept() {
 # ---- builds
 
 make_checkout 'echo "a proof is open"; exit 1'
-expect "a build that fails at a crate starts no stale program" 125 "" "a proof is open"
+expect "a build that fails starts no stale program" 125 "" "a proof is open"
 
-make_checkout 'at=${0%/bin/rt}; pwd | sed "s,.*/,," >> "$at/order"; [ "$1" = lib ] && exit 0; echo built: $(cat "$at/order"); exit 1'
-expect "the libraries below the program are built in order before it, and no other" 125 "" "built: low high orca"
+make_checkout 'echo "$1" of $(find . -type f | sort) $(cat crates.txt); exit 1'
+expect "what is proved is a copy of the program's crates, without edits and without other crates" 125 "" \
+  "^ci of ./HANDLES ./crates.txt ./crates/low/proofs/Low.antt ./crates/low/specs/Low.antt ./crates/orca/src/main.rt orca: high std low: high may_wait=1: low$"
 
-# (as the real command, it holds the folder of the crate below; each of the two waits for the other to begin)
-make_checkout 'at=${0%/bin/rt}; here=$(basename "$PWD")
-case "$1 $here" in
-  "lib low") exit 0;;
-  lib*) exec 9< ../low/src; flock 9; touch "$at/$here"
-    for i in 1 2 3 4 5 6 7 8 9 10; do [ -e "$at/high" ] && [ -e "$at/beside" ] && exit 0; sleep 0.3; done
-    echo "$here was built alone"; exit 1;;
-esac
-echo "the two were built side by side"; exit 1'
-printf '%s\n' "orca: high beside" "low:" "high: low" "beside: low" > "$checkout/crates.txt"
-mkdir "$checkout/crates/low/src"
-expect "libraries that stand on one, and not on each other, are built side by side" 125 "" "the two were built side by side"
+make_checkout 'echo "rt: low proved"; echo "rt: high is kept: an earlier run proved it"; exit 1'
+expect "what is proved is told, with what was proved before" 125 "" "orca: proved low"
 
-make_checkout 'case $PWD in */low) exit 0;; */high) echo "high has an open proof"; exit 1;; esac; echo "went on"; exit 0'
-expect "a library that fails ends the build" 125 "" "high has an open proof"
+make_checkout 'exit 0'
+expect "a build that makes no program starts no stale one" 125 "" "couldn't be built"
 
-make_checkout '[ "$1" != run ] && exit 0; echo "the linker failed"; exit 1'
-expect "a build that fails at the program starts no stale program" 125 "" "the linker failed"
+make_checkout "$builds"
+expect "a program that was built is started with the words" 0 "word of fn main() {}" "proving"
 
-make_checkout '[ "$1" != run ] && exit 0; printf "#!/bin/sh\necho \$1\nexit 2\n" > out/orca; chmod +x out/orca; exit 2'
-expect "a program that was built is started with the words, and its status is the script's" 2 "word" "proving and building"
+make_checkout 'mkdir crates/orca/out; printf "#!/bin/sh\nexit 2\n" > crates/orca/out/orca; chmod +x crates/orca/out/orca'
+expect "the status of the program is the script's" 2 "" "proving"
 
 # ---- what is current
 
@@ -100,7 +92,7 @@ expect "a program that is current is started at once" 0 "word of fn main() {}" "
 make_built_checkout
 echo "fn main() { edited }" > "$checkout/crates/orca/src/main.rt"
 make_rt "$builds"
-expect "a source that was edited is built" 0 "word of fn main() { edited }" "proving and building"
+expect "a source that was edited is built" 0 "word of fn main() { edited }" "proving"
 
 make_built_checkout
 rm "$checkout/crates/low/specs/Low.antt"
@@ -125,29 +117,17 @@ touch -d "1 year ago" "$checkout/crates/low/specs/Low.antt" "$checkout/crates/lo
 expect "a source that was replaced by one with an older time is seen" 125 "" "called again"
 
 make_checkout "$builds"
-echo 'echo "fn main() { edited }" > src/main.rt' > "$checkout/during"
-expect_kept "a program whose source is edited while it is linked isn't started" 0 "word of fn main() { edited }" ""
+echo 'echo "fn main() { edited }" > $at/crates/orca/src/main.rt' > "$checkout/during"
+expect_kept "a program whose source is edited while it is built isn't started" 0 "word of fn main() { edited }" ""
 make_rt 'echo "called again"; exit 1'
 expect "the program of the second build is current" 0 "word of fn main() { edited }" ""
-
-make_checkout 'at=${0%/bin/rt}; mkdir -p out/rlib; touch out/rlib/stamp
-case "$1 $PWD" in "lib "*/low)
-  [ ! -e "$at/edited" ] && { touch "$at/edited"; echo "-- edited" > "$at/crates/low/specs/Low.antt"; }
-  echo "low over: $(cat specs/Low.antt)" >> "$at/order"
-  sleep 0.1; touch out/rlib/stamp; exit 0;;
-esac
-[ "$1" != run ] && exit 0
-printf "#!/bin/sh\ncat $at/order\n" > out/orca; chmod +x out/orca'
-expect "a library whose source is edited while it is built is built again, and the edit doesn't reach the first build" 0 \
-  "low over: -- a definition
-low over: -- edited" ""
 
 make_checkout "$builds"
 PATH="$checkout/bin:$PATH" "$checkout/orca" word >/dev/null 2>&1 &
 PATH="$checkout/bin:$PATH" "$checkout/orca" word >/dev/null 2>&1
 wait
 make_rt 'echo "called again"; exit 1'
-printf '#!/bin/sh\nexit %s\n' "\$(($(grep -c "^run" "$checkout/calls") - 1))" > "$checkout/crates/orca/out/orca"
+printf '#!/bin/sh\nexit %s\n' "\$(($(grep -c "^ci" "$checkout/calls") - 1))" > "$checkout/crates/orca/out/orca"
 expect "of two calls at once one builds" 0 "" ""
 
 # ---- the answer before the proof
