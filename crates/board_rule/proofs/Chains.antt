@@ -1,6 +1,6 @@
 -- Heads that come later, sums over places, chains of waiters, and bits of run words.
-use Rattle.std.proofs.Common.{◌≡◌, ℕ, zero, suc, ◌+◌, ◌-◌, ◌/◌, ◌^◌, ◌<◌, ◌≤◌, ◌≢◌, min, max, List, [], ◌∷◌, cond, eqb}
-use Rattle.std.proofs.Common.{eq-eqb, ne_eqb, bit_or, sym, refl, ap, subst, ◌∙◌, inl, inr, ⊎_elim, arith}
+use Rattle.std.proofs.Common.{◌≡◌, ℕ, zero, suc, ◌+◌, ◌-◌, ◌/◌, ◌^◌, ◌<◌, ◌≤◌, ◌≢◌, List, [], ◌∷◌, cond, eqb}
+use Rattle.std.proofs.Common.{bit_or, sym, refl, ap, subst, ◌∙◌, inl, inr, ⊎_elim, arith}
 use Rattle.std.proofs.lemmas.Bool.{cases_eq}
 use Rattle.std.proofs.lemmas.Nat.Bits.{bit_at_or, bit_at_and, bit_at-pow_same, bit_at-pow_other, bit_at-lt, bit_at_not}
 use Rattle.std.specs.Int.{bit_at}
@@ -9,7 +9,7 @@ use Rattle.std.proofs.Math.Pow.{pow-lt}
 use Rattle.board_rule.specs.Words.{put}
 use Rattle.board_rule.specs.Waiters.{rest_of, IsChain, IsLater, cleared, below}
 use Rattle.board_rule.specs.Seats.{Among, Each, times}
-use Rattle.board_rule.proofs.Lists.{put_else}
+use Rattle.board_rule.proofs.Lists.{cond_cases, counts_one, put_else}
 
 -- how often a waiter stands in a list
 abbrev pub count : ℕ → List ℕ → ℕ
@@ -74,9 +74,7 @@ put_list lists at l p = cond (eqb p at) l (lists p)
 
 pub put_list_cases : (lists : ℕ → List ℕ) (at : ℕ) (l : List ℕ) (p : ℕ) (Fact : List ℕ → Type 0) → (p ≡ at → Fact l)
     → (p ≢ at → Fact (lists p)) → Fact (put_list lists at l p)
-put_list_cases lists at l p Fact here else =
-    ⊎_elim (λ e. subst (λ b. Fact (cond b l (lists p))) (sym (eq-eqb p at e)) (here e))
-    (λ ne. subst (λ b. Fact (cond b l (lists p))) (sym (ne_eqb p at ne)) (else ne)) (cases_eq p at)
+put_list_cases lists at l p = cond_cases p at l (lists p)
 
 -- how often a waiter stands in all lists, once one has changed
 pub below_put_list : (lists : ℕ → List ℕ) (capacity at : ℕ) (l : List ℕ) (q : ℕ) → at < capacity
@@ -97,58 +95,36 @@ each_with P Q (x ∷ xs) follows old = (follows x (inl refl) old.0, each_with P 
 pub chain_put : (next : ℕ → ℕ) (q x : ℕ) (l : List ℕ) → count q l ≡ 0 → IsChain next l → IsChain (put next q x) l
 chain_put next q x [] none_of old = tt
 chain_put next q x (p ∷ ps) none_of old =
-    let ne : p ≢ q = λ e. let one : cond {A = ℕ} (eqb p q) 1 0 ≡ 1 = ap (λ b. cond b 1 0) (eq-eqb p q e) in
-    absurd (omega arith) in
+    let ne : p ≢ q = λ e. absurd (omega (arith, counts_one p q e)) in
     (put_else next q x p ne ∙ old.0, chain_put next q x ps (omega arith) old.1)
 
 pub chain_rest : (next : ℕ → ℕ) (l : List ℕ) → IsChain next l → IsChain next (rest_of l)
 chain_rest next [] old = tt
 chain_rest next (p ∷ ps) old = old.1
 
--- 2 ^ b at b below 64
-pow_within : (b : ℕ) → b < 64 → 2 ^ b < 2 ^ 64
-pow_within b within = pow-lt within
-
-top : (x y : ℕ) → x < 2 → y ≡ 1 → max x y ≡ 1
-top x y few one = omega arith
-
-over : (x y : ℕ) → y ≡ 0 → max x y ≡ x
-over x y none_of = omega arith
-
-least : (x y : ℕ) → y ≡ 0 → min x y ≡ 0
-least x y none_of = omega arith
-
-under : (x y : ℕ) → x < 2 → y ≡ 1 → min x y ≡ x
-under x y few one = omega arith
-
-nothing : (x y : ℕ) → x ≡ 0 → min x y ≡ 0
-nothing x y none_of = omega arith
-
 -- the bits of a run word once one was set
 pub set_same : (n b : ℕ) → bit_at (bit_or n (2 ^ b)) b ≡ 1
-set_same n b = bit_at_or n (2 ^ b) b ∙ top (bit_at n b) (bit_at (2 ^ b) b) (bit_at-lt n b) (bit_at-pow_same b)
+set_same n b = bit_at_or n (2 ^ b) b ∙ omega (arith, bit_at-lt n b, bit_at-pow_same b)
 
 pub set_other : (n b i : ℕ) → i ≢ b → bit_at (bit_or n (2 ^ b)) i ≡ bit_at n i
-set_other n b i ne = bit_at_or n (2 ^ b) i ∙ over (bit_at n i) (bit_at (2 ^ b) i) (bit_at-pow_other b i ne)
+set_other n b i ne = bit_at_or n (2 ^ b) i ∙ omega (arith, bit_at-pow_other b i ne)
 
 -- the bits of the mask that leaves one out
 mask_same : (b : ℕ) → b < 64 → bit_at (2 ^ 64 - 1 - 2 ^ b) b ≡ 0
-mask_same b within = bit_at_not w64 (2 ^ b) b (pow_within b within) within ∙ ap (λ x. 1 - x) (bit_at-pow_same b)
+mask_same b within = bit_at_not w64 (2 ^ b) b (pow-lt within) within ∙ ap (λ x. 1 - x) (bit_at-pow_same b)
 
 mask_other : (b i : ℕ) → b < 64 → i < 64 → i ≢ b → bit_at (2 ^ 64 - 1 - 2 ^ b) i ≡ 1
-mask_other b i within few ne = bit_at_not w64 (2 ^ b) i (pow_within b within) few
+mask_other b i within few ne = bit_at_not w64 (2 ^ b) i (pow-lt within) few
     ∙ ap (λ x. 1 - x) (bit_at-pow_other b i ne)
 
 -- and once one was cleared
 pub cleared_same : (n b : ℕ) → b < 64 → bit_at (cleared n b) b ≡ 0
-cleared_same n b within = bit_at_and n (2 ^ 64 - 1 - 2 ^ b) b
-    ∙ least (bit_at n b) (bit_at (2 ^ 64 - 1 - 2 ^ b) b) (mask_same b within)
+cleared_same n b within = bit_at_and n (2 ^ 64 - 1 - 2 ^ b) b ∙ omega (arith, mask_same b within)
 
 pub cleared_other : (n b i : ℕ) → b < 64 → i < 64 → i ≢ b → bit_at (cleared n b) i ≡ bit_at n i
 cleared_other n b i within few ne =
-    bit_at_and n (2 ^ 64 - 1 - 2 ^ b) i ∙ under (bit_at n i) (bit_at (2 ^ 64 - 1 - 2 ^ b) i) (bit_at-lt n i)
-    (mask_other b i within few ne)
+    bit_at_and n (2 ^ 64 - 1 - 2 ^ b) i ∙ omega (arith, bit_at-lt n i, mask_other b i within few ne)
 
 -- a bit that was not set is not set after
 pub cleared_none : (n b i : ℕ) → bit_at n i ≡ 0 → bit_at (cleared n b) i ≡ 0
-cleared_none n b i old = bit_at_and n (2 ^ 64 - 1 - 2 ^ b) i ∙ nothing (bit_at n i) (bit_at (2 ^ 64 - 1 - 2 ^ b) i) old
+cleared_none n b i old = bit_at_and n (2 ^ 64 - 1 - 2 ^ b) i ∙ omega arith

@@ -16,13 +16,13 @@ use Rattle.board_rule.specs.Soundness.{held, ended}
 use Rattle.board_rule.specs.May.{MayClaim, HasPart}
 use Rattle.board_rule.specs.Plays.{Sat, TellsClaim, ClaimsAt, Tells}
 use Rattle.board_rule.specs.declared.hands.Hands.{Hands}
-use Rattle.board_rule.proofs.Lists.{put_here, put_else, term_le}
+use Rattle.board_rule.proofs.Lists.{put_here, put_else, term_le, counts_one, counts_none}
 use Rattle.board_rule.proofs.Frames.{moment_of}
 use Rattle.board_rule.proofs.Waits.{SameBits, handed_same, waits_as, raised_as, pending_as, same_bits_put, none_pending}
 use Rattle.board_rule.proofs.RunWords.{blank_run, run_step_keeps}
 use Rattle.board_rule.proofs.Looking.{Holds}
 use Rattle.board_rule.proofs.Putting.{Leads, miss_leads}
-use Rattle.board_rule.proofs.Rights.{rights_at, counts_one, counts_none, held-set, ended-set, rights_moved}
+use Rattle.board_rule.proofs.Rights.{rights_at, held-set, ended-set, rights_moved}
 
 -- 256 has the held bit alone
 pub held_alone : (i : ℕ) → i ≢ 8 → bit_at 256 i ≡ 0

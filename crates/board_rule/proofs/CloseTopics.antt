@@ -9,7 +9,7 @@ use Rattle.board_rule.specs.Waiters.{IsLater, head_of, IsChain}
 use Rattle.board_rule.specs.Soundness.{HoldsGoal, KeepsBlank, IsPromised, KeepsPromises, Stays, IsRecorded, WaitedFor}
 use Rattle.board_rule.specs.Soundness.{IsWalked, KeepsRights, IsRaised, KeepsWaits, EndsClaims}
 use Rattle.board_rule.specs.Soundness.{held, ended}
-use Rattle.board_rule.proofs.Lists.{put_else, put_cases, each_as, put_here}
+use Rattle.board_rule.proofs.Lists.{put_else, put_cases, each_as, put_here, counts_one, counts_none}
 use Rattle.board_rule.proofs.Lists.{total-set}
 use mathlib.Core.Option.{some}
 use lib.ListN.{get_elem?}
@@ -19,7 +19,7 @@ use Rattle.std.proofs.lemmas.Nat.Bits.{same_from_bits}
 use Rattle.board_rule.specs.Seats.{Each, in_hand, without, finished}
 use Rattle.board_rule.specs.May.{HasRight}
 use Rattle.board_rule.specs.declared.hands.Hands.{Hands}
-use Rattle.board_rule.proofs.Rights.{held_by, counts_one, counts_none, held-set, ended-set, rights_moved, rights_at}
+use Rattle.board_rule.proofs.Rights.{held_by, held-set, ended-set, rights_moved, rights_at}
 use Rattle.board_rule.proofs.Rights.{without_here, without_else}
 use Rattle.board_rule.proofs.Chains.{count, put_list, put_list_cases, below_put_list}
 use Rattle.board_rule.proofs.Claiming.{held_alone}

@@ -8,8 +8,8 @@ use Rattle.board_rule.specs.Waiters.{first_of, below}
 use Rattle.board_rule.specs.Seats.{Each}
 use Rattle.board_rule.specs.Soundness.{KeepsWaits}
 use Rattle.board_rule.specs.declared.hands.Hands.{Hands}
-use Rattle.board_rule.proofs.Rights.{counts_one, counts_none}
 use Rattle.board_rule.proofs.Chains.{count, below_none, below_term}
+use Rattle.board_rule.proofs.Lists.{counts_one, counts_none}
 
 below_add : (f g : ℕ → ℕ) (n : ℕ) → below (λ p. f p + g p) n ≡ below f n + below g n
 below_add f g zero = refl

@@ -1,8 +1,7 @@
 -- Lists that change at one place, sums over them, and functions that change at one place.
 use Rattle.std.proofs.Common.{◌≡◌, ℕ, zero, suc, ◌+◌, ◌<◌, ◌≤◌, ◌≢◌, List, [], ◌∷◌, ◌++◌, map, length, set, cond, eqb}
 use Rattle.std.proofs.Common.{eq-eqb, ne_eqb, sym, refl, ap, subst, ◌∙◌, inl, inr, ⊎_elim, arith}
-use mathlib.Core.Logic.{dite}
-use native.Mathlib.Decide.{ℕ_discrete}
+use Rattle.std.proofs.lemmas.Bool.{cases_eq}
 use mathlib.Core.Option.{some, some-injective, some-ne-none}
 use lib.ListN.{get_elem?}
 use Rattle.board_rule.specs.Words.{put}
@@ -16,13 +15,26 @@ put_here f at x = ap (λ b. cond b x (f at)) (eq-eqb at at refl)
 pub put_else : (f : ℕ → ℕ) (at x p : ℕ) → p ≢ at → put f at x p ≡ f p
 put_else f at x p ne = ap (λ b. cond b x (f p)) (ne_eqb p at ne)
 
+-- a fact of the first value where two numbers are one, and of the second where they are two, holds of that of the two
+-- that stands for them
+pub cond_cases : {A : Type 0} (p at : ℕ) (same other : A) (Fact : A → Type 0) → (p ≡ at → Fact same)
+    → (p ≢ at → Fact other) → Fact (cond (eqb p at) same other)
+cond_cases p at same other Fact here else =
+    ⊎_elim (λ e. subst (λ b. Fact (cond b same other)) (sym (eq-eqb p at e)) (here e))
+    (λ ne. subst (λ b. Fact (cond b same other)) (sym (ne_eqb p at ne)) (else ne)) (cases_eq p at)
+
 -- a fact of the new value there, and of the old ones elsewhere, holds of the function
 pub put_cases : (f : ℕ → ℕ) (at x p : ℕ) (Fact : ℕ → Type 0) → (p ≡ at → Fact x) → (p ≢ at → Fact (f p))
     → Fact (put f at x p)
-put_cases f at x p Fact here else =
-    dite (ℕ_discrete p at)
-    (λ e. subst Fact (sym (ap (λ b. cond b x (f p)) (eq-eqb p at e))) (here e))
-    (λ ne. subst Fact (sym (put_else f at x p ne)) (else ne))
+put_cases f at x p = cond_cases p at x (f p)
+
+-- a place counts once where it is the other
+pub counts_one : (p q : ℕ) → p ≡ q → cond {A = ℕ} (eqb p q) 1 0 ≡ 1
+counts_one p q e = ap (λ b. cond b 1 0) (eq-eqb p q e)
+
+-- and not at all elsewhere
+pub counts_none : (p q : ℕ) → p ≢ q → cond {A = ℕ} (eqb p q) 1 0 ≡ 0
+counts_none p q ne = ap (λ b. cond b 1 0) (ne_eqb p q ne)
 
 module _ {A : Type 0} where
   pub some_below : (l : List A) (j : ℕ) (a : A) → get_elem? l j ≡ some a → j < length l
@@ -56,18 +68,14 @@ module _ {A : Type 0} where
     among_counts [] a at = absurd at
     among_counts (x ∷ xs) a at =
         ⊎_elim
-        (λ (e : x ≡ a). let one : cond {A = ℕ} (eqb (place_of x) (place_of a)) 1 0 ≡ 1 =
-        ap (λ b. cond b 1 0) (eq-eqb (place_of x) (place_of a) (ap place_of e)) in omega arith)
+        (λ (e : x ≡ a). omega (arith, counts_one (place_of x) (place_of a) (ap place_of e)))
         (λ (t : Among xs a). omega (arith, among_counts xs a t)) at
 
     -- where a place stands no time in the list, each has another
     pub absent_each : (p : ℕ) (l : List A) → times place_of p l ≡ 0 → Each (λ a. place_of a ≢ p) l
     absent_each p [] none = tt
-    absent_each p (x ∷ xs) none = (
-      (λ e. let one : cond {A = ℕ} (eqb (place_of x) p) 1 0 ≡ 1 = ap (λ b. cond b 1 0) (eq-eqb (place_of x) p e) in
-          absurd (omega arith)),
-      absent_each p xs (omega arith),
-    )
+    absent_each p (x ∷ xs) none =
+        ((λ e. absurd (omega (arith, counts_one (place_of x) p e))), absent_each p xs (omega arith))
 
     -- a place that stands once in the list is that of one alone
     pub only_one : (l : List A) (a b : A) → times place_of (place_of a) l ≤ 1 → place_of b ≡ place_of a → Among l a
@@ -75,7 +83,7 @@ module _ {A : Type 0} where
     only_one [] a b few same at bt = absurd at
     only_one (x ∷ xs) a b few same at bt =
         let one : (c : A) → x ≡ c → place_of c ≡ place_of a → cond {A = ℕ} (eqb (place_of x) (place_of a)) 1 0 ≡ 1 =
-        λ c e s. ap (λ b. cond b 1 0) (eq-eqb (place_of x) (place_of a) (ap place_of e ∙ s)) in
+        λ c e s. counts_one (place_of x) (place_of a) (ap place_of e ∙ s) in
         let more : (c : A) → Among xs c → place_of c ≡ place_of a → 1 ≤ times place_of (place_of a) xs =
         λ c t s. subst (λ p. 1 ≤ times place_of p xs) s (among_counts xs c t) in
         ⊎_elim

@@ -7,10 +7,10 @@ use Rattle.board_rule.specs.Records.{Claimed, Pending}
 use Rattle.board_rule.specs.Waiters.{waiting}
 use Rattle.board_rule.specs.Seats.{Among, Each, waits_at}
 use Rattle.board_rule.specs.Soundness.{IsRaised}
-use Rattle.board_rule.proofs.Lists.{absent_each, each_at, each_as}
+use Rattle.board_rule.proofs.Lists.{absent_each, each_at, each_as, counts_one, counts_none}
 use Rattle.board_rule.proofs.Chains.{count}
 use Rattle.board_rule.proofs.AnswerWords.{each_both}
-use Rattle.board_rule.proofs.Rights.{rights_at, counts_one, counts_none}
+use Rattle.board_rule.proofs.Rights.{rights_at}
 
 -- a waiter is counted in a list of one where it is that one
 pub count_one : (p q : ℕ) → p ≡ q → count p (q ∷ []) ≡ 1

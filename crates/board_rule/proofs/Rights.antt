@@ -1,8 +1,6 @@
 -- The rights of a seat once one was spent, and all rights once those at one place have changed.
-use Rattle.std.proofs.Common.{◌≡◌, ℕ, ◌+◌, ◌^◌, ◌<◌, ◌≤◌, ⊎_elim, set, ◌≢◌, List, [], ◌∷◌, cond, eqb, eq-eqb, ne_eqb}
+use Rattle.std.proofs.Common.{◌≡◌, ℕ, ◌+◌, ◌^◌, ◌<◌, ◌≤◌, ⊎_elim, set, ◌≢◌, List, [], ◌∷◌}
 use Rattle.std.proofs.Common.{sym, refl, ap, subst, ◌∙◌, arith}
-use mathlib.Core.Logic.{dite}
-use native.Mathlib.Decide.{ℕ_discrete}
 use mathlib.Core.Option.{some}
 use lib.ListN.{get_elem?}
 use Rattle.std.proofs.lemmas.Bool.{cases_eq}
@@ -15,7 +13,7 @@ use Rattle.std.specs.Int.{bit_at}
 use Rattle.std.proofs.lemmas.Nat.Bits.{bit_at-zero}
 use Rattle.board_rule.specs.May.{HasRight}
 use Rattle.board_rule.specs.declared.hands.Hands.{Hands}
-use Rattle.board_rule.proofs.Lists.{total-set, term_le}
+use Rattle.board_rule.proofs.Lists.{cond_cases, counts_one, counts_none, total-set, term_le}
 
 -- how often a place stands in the rights
 abbrev pub rights_at : ℕ → List Claimed → ℕ
@@ -24,18 +22,7 @@ rights_at p rights = times (λ (r : Claimed). r.place) p rights
 -- the first right is the one that is spent, or it stays
 pub without_cases : (Fact : List Claimed → Type 0) (place : ℕ) (r : Claimed) (rs : List Claimed)
     → (r.place ≡ place → Fact rs) → (r.place ≢ place → Fact (r ∷ without place rs)) → Fact (without place (r ∷ rs))
-without_cases Fact place r rs spent stays =
-    dite (ℕ_discrete r.place place)
-    (λ e. subst (λ b. Fact (cond b rs (r ∷ without place rs))) (sym (eq-eqb r.place place e)) (spent e))
-    (λ ne. subst (λ b. Fact (cond b rs (r ∷ without place rs))) (sym (ne_eqb r.place place ne)) (stays ne))
-
--- a place counts once where it is the right's
-pub counts_one : (p q : ℕ) → p ≡ q → cond {A = ℕ} (eqb p q) 1 0 ≡ 1
-counts_one p q e = ap (λ b. cond b 1 0) (eq-eqb p q e)
-
--- and not at all elsewhere
-pub counts_none : (p q : ℕ) → p ≢ q → cond {A = ℕ} (eqb p q) 1 0 ≡ 0
-counts_none p q ne = ap (λ b. cond b 1 0) (ne_eqb p q ne)
+without_cases Fact place r rs = cond_cases r.place place rs (r ∷ without place rs) Fact
 
 -- one less at the place of the right that was spent
 pub without_here : (place : ℕ) (rights : List Claimed) → 1 ≤ rights_at place rights

@@ -16,13 +16,13 @@ use Rattle.board_rule.specs.Soundness.{ended}
 use Rattle.board_rule.specs.May.{HasPart, HasRight, MaySuspend}
 use Rattle.board_rule.specs.Plays.{Sat, TellsSuspend, SuspendsAt, Tells}
 use Rattle.board_rule.specs.declared.hands.Hands.{Hands}
-use Rattle.board_rule.proofs.Lists.{put_here, put_else}
+use Rattle.board_rule.proofs.Lists.{put_here, put_else, counts_one, counts_none}
 use Rattle.board_rule.proofs.Frames.{moment_of}
 use Rattle.board_rule.proofs.Chains.{cleared_same, cleared_other, cleared_none}
 use Rattle.board_rule.proofs.Waits.{SameBits, handed_same, waits_as, raised_as, same_bits_put}
 use Rattle.board_rule.proofs.Looking.{Holds}
-use Rattle.board_rule.proofs.Rights.{bit_runs, held_by, rights_at, without_here, without_else, each_without, counts_one}
-use Rattle.board_rule.proofs.Rights.{counts_none, held-set, ended-set, rights_moved}
+use Rattle.board_rule.proofs.Rights.{bit_runs, held_by, rights_at, without_here, without_else, each_without}
+use Rattle.board_rule.proofs.Rights.{held-set, ended-set, rights_moved}
 use Rattle.board_rule.proofs.RunWords.{blank_running, run_step_keeps}
 
 -- a held goal that is suspended is held by no seat

@@ -11,9 +11,9 @@ use Rattle.board_rule.specs.Waiters.{wait_bit, waiting, head_of, below}
 use Rattle.board_rule.specs.Seats.{Among, Each, total, in_hand}
 use Rattle.board_rule.specs.Soundness.{KeepsBlank, IsRaised, IsPending, ArePending, KeepsWaits}
 use Rattle.board_rule.specs.declared.hands.Hands.{Hands}
-use Rattle.board_rule.proofs.Lists.{put_cases, each_as, among_counts, total_same, term_le}
+use Rattle.board_rule.proofs.Lists.{put_cases, each_as, among_counts, total_same, term_le, counts_none}
 use Rattle.board_rule.proofs.Chains.{count, below_term}
-use Rattle.board_rule.proofs.Rights.{rights_at, counts_none, held_stands, bit_runs}
+use Rattle.board_rule.proofs.Rights.{rights_at, held_stands, bit_runs}
 use Rattle.std.proofs.lemmas.Bool.{cases_lt}
 
 -- run words whose wait bits are as they were

@@ -13,8 +13,8 @@ use Rattle.board_rule.specs.Waiters.{wait_bit, below}
 use Rattle.board_rule.specs.Seats.{Among, total, in_hand, spent}
 use Rattle.board_rule.specs.Soundness.{HoldsGoal, KeepsWaits, IsSoundBy, held, ended}
 use Rattle.board_rule.specs.declared.hands.Hands.{Hands}
-use Rattle.board_rule.proofs.Lists.{each_at, terms_le}
-use Rattle.board_rule.proofs.Rights.{rights_at, counts_none, bit_runs}
+use Rattle.board_rule.proofs.Lists.{each_at, terms_le, counts_none}
+use Rattle.board_rule.proofs.Rights.{rights_at, bit_runs}
 use Rattle.board_rule.proofs.Chains.{count}
 use Rattle.board_rule.proofs.Waits.{handed, listed_waits, waited_open, waited_stands}
 

@@ -11,8 +11,8 @@ use Rattle.board_rule.specs.Seats.{cost_stored, node_stored, who_stored}
 use Rattle.board_rule.specs.May.{HasRight}
 use Rattle.board_rule.specs.Plays.{Moment}
 use Rattle.board_rule.specs.declared.hands.Hands.{Hands}
-use Rattle.board_rule.proofs.Lists.{among_map, among_counts, term_le}
-use Rattle.board_rule.proofs.Rights.{rights_at, held_by, counts_one}
+use Rattle.board_rule.proofs.Lists.{among_map, among_counts, term_le, counts_one}
+use Rattle.board_rule.proofs.Rights.{rights_at, held_by}
 use Rattle.goal_board.specs.Seats.{AreHandsOver}
 use Rattle.goal_board.specs.RightCalls.{waiting_right}
 use Rattle.goal_board.proofs.Overs.{sound_at}
