@@ -7,10 +7,12 @@ use Rattle.atomic_table.proofs.Lists.{at_set}
 use Rattle.board_rule.specs.Meaning.{Meaning}
 use Rattle.board_rule.specs.Records.{Claimed, Ended}
 use Rattle.board_rule.specs.Seats.{times, spent, changed}
-use Rattle.board_rule.specs.Soundness.{AreRights, KeepsRights, IsAwake, OfAll, KeepsAlone, IsSound, held, ended}
-use Rattle.board_rule.specs.Plays.{Moment}
+use Rattle.board_rule.specs.Soundness.{AreRights, KeepsRights, IsAwake, OfAll, KeepsAlone, IsSound, held, ended, IsFull}
+use Rattle.board_rule.specs.Soundness.{AreCells, KeepsBlank, KeepsWaits, KeepsPromises, AreHands, IsSoundBy}
+use Rattle.board_rule.specs.Plays.{Moment, Leaves, Tells}
 use Rattle.board_rule.specs.declared.hands.Hands.{Hands}
 use Rattle.board_rule.proofs.Lists.{some_below, total_same}
+use Rattle.board_rule.specs.Words.{Mem, mem}
 
 module _ {R : Type 0} where
   -- a seat with a part is not spent
@@ -99,13 +101,43 @@ module _ {R : Type 0} where
       (λ kept is. let t = changed_from word x v.alone kept (sym changes ∙ is) in
       (t.0, t.1, λ e. sym t.2 ∙ ap (λ (ws : List ℕ). set ws word x) e))
 
+module _ {R : Type 0} (meaning : Meaning) (rules : R) (capacity : ℕ) where
+  -- what has to hold of the words after a store, and of the seats, of which one has other hands
+  pub record HoldsAfter (old new : Mem) (views : List (Hands R)) (id : ℕ) (w : Hands R) : Type 0 where
+    pub cells : AreCells meaning capacity new.cell
+    pub blank : KeepsBlank meaning capacity new
+    pub rights : KeepsRights capacity new.run new.head (set views id w)
+    pub waits : KeepsWaits meaning capacity new.cell new.run new.head new.next (set views id w)
+    pub promises : KeepsPromises meaning capacity new.cell new.head new.cost new.node
+    pub full : new.full ≢ 0 → IsFull meaning capacity new.cell
+    pub others : (other : ℕ) (u : Hands R) → other ≢ id → get_elem? views other ≡ some u
+        → AreHands meaning rules capacity old u → AreHands meaning rules capacity new u
+    pub own : AreHands meaning rules capacity new w
+
+  -- then the board is sound after the store
+  pub store_keeps : (words : List ℕ) (views : List (Hands R)) (id : ℕ) (v w : Hands R) (word x : ℕ) (new : Mem)
+      → IsSound meaning rules capacity words views → get_elem? views id ≡ some v
+      → mem (set words word x) ≡ new → w.parts ≡ v.parts → w.alone ≡ changed word x v.alone
+      → HoldsAfter (mem words) new views id w
+      → IsSound meaning rules capacity (set words word x) (set views id w)
+  store_keeps words views id v w word x new sound mine stored parts changes after =
+      let k = sound.by_kinds in
+      let hands = of_others_set (AreHands meaning rules capacity (mem words)) (AreHands meaning rules capacity new)
+      views id w after.others k.hands after.own in
+      let all_parts = total_same (λ (u : Hands R). u.parts) views id v w mine parts ∙ k.parts in
+      record {
+        count = length-set words word x ∙ sound.count;
+        by_kinds = subst (λ m. IsSoundBy meaning rules capacity m (set views id w)) (sym stored)
+            (assumption (after, hands, all_parts));
+        alone = alone_set words views id word x v w mine changes sound.alone;
+      }
+
+module _ {R : Type 0} (meaning_of : R → Meaning) (rules : R) (capacity : ℕ) (words : List ℕ) (views : List (Hands R))
+    (id : ℕ) (v : Hands R) (word : ℕ) (sound : IsSound (meaning_of rules) rules capacity words views)
+    (mine : get_elem? views id ≡ some v) (some_part : 0 < v.parts) where
   -- the board at a step
-  pub moment_of : (meaning_of : R → Meaning) (rules : R) (capacity : ℕ) (words : List ℕ) (views : List (Hands R))
-      (id : ℕ)
-      (v : Hands R) (word : ℕ)
-      → IsSound (meaning_of rules) rules capacity words views → get_elem? views id ≡ some v → 0 < v.parts
-      → Moment meaning_of v word (get_or words word 0)
-  moment_of meaning_of rules capacity words views id v word sound mine some_part =
+  pub moment_of : Moment meaning_of v word (get_or words word 0)
+  moment_of =
       let has = awake_has rules capacity v some_part (sound.by_kinds.hands id v mine).awake in
       record {
         rules = rules;
@@ -117,3 +149,8 @@ module _ {R : Type 0} where
         mine = mine;
         value = refl;
       }
+
+  -- what a step that leaves a seat with these hands tells it
+  pub told_left : (left : Hands R) (slots : List (ℕ × Unit {0}))
+      → Tells meaning_of (Leaves meaning_of v word (get_or words word 0) left) (v, slots) (left, slots)
+  told_left left slots = record { hands = record { hands_are = refl; moment = moment_of }; slots = refl }

@@ -21,8 +21,7 @@ use Rattle.board_rule.proofs.Rights.{bit_runs}
 use Rattle.board_rule.proofs.Chains.{count, below_term, chain_put}
 use Rattle.board_rule.proofs.Raised.{count_one}
 use Rattle.board_rule.proofs.Waits.{waits_stay, pending_as, pending_at, hand_parts}
-use Rattle.board_rule.proofs.WaitLooks.{raised_by}
-use Rattle.board_rule.proofs.Looking.{Holds}
+use Rattle.board_rule.proofs.Looking.{Holds, raised_by}
 
 -- words that are 0 stay so where the next word of a waiter changes
 blank_next : (meaning : Meaning) (capacity : ℕ) (m : Mem) (q x : ℕ) → m.run (q / 8) ≢ 0 → KeepsBlank meaning capacity m

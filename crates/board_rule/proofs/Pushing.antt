@@ -23,13 +23,12 @@ use Rattle.board_rule.proofs.Rights.{held_by}
 use Rattle.board_rule.proofs.Chains.{count, put_list, put_list_cases, below_put_list}
 use Rattle.board_rule.proofs.AnswerWords.{times_map}
 use Rattle.board_rule.proofs.Waits.{pending_at}
-use Rattle.board_rule.proofs.WaitLooks.{wait_look_keeps}
 use Rattle.board_rule.proofs.RunWords.{absence_beside}
 use Rattle.board_rule.proofs.Lengths.{list_length, first_within}
 use Rattle.board_rule.proofs.PushTopics.{promises_push, recorded_push, walked_push, stays_push, blank_push, rights_push}
 use Rattle.board_rule.proofs.PushTopics.{more_waits, same_place, stored_push, raised_push}
 use Rattle.board_rule.proofs.Putting.{Leads}
-use Rattle.board_rule.proofs.Looking.{Holds}
+use Rattle.board_rule.proofs.Looking.{Holds, wait_look_keeps}
 
 -- the number and the first waiter of a head
 head_parts : (l : List ℕ) (h : ℕ) → h ≡ head_of l → first_of l < 2 ^ 24 → (h / 2 ^ 24 ≡ length l)
