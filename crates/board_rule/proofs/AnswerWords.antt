@@ -1,5 +1,5 @@
 -- What a store of an answer word, by the seat that holds the goal, leaves of each topic.
-use Rattle.std.proofs.Common.{cond, eqb, ◌≡◌, ℕ, ◌+◌, ◌*◌, ◌/◌, ◌^◌, ◌<◌, ◌≤◌, ◌≢◌, List, [], ◌∷◌, map, set, sym, refl}
+use Rattle.std.proofs.Common.{cond, eqb, ◌≡◌, ℕ, ◌+◌, ◌*◌, ◌/◌, ◌^◌, ◌<◌, ◌≤◌, ◌≢◌, List, [], ◌∷◌, map, sym, refl}
 use Rattle.std.proofs.Common.{ap, subst, ◌∙◌, inr, arith, Option}
 use mathlib.Core.Option.{some}
 use lib.ListN.{get_elem?}
@@ -9,11 +9,12 @@ use Rattle.board_rule.specs.Records.{Claimed, Ended, Pending}
 use Rattle.board_rule.specs.Waiters.{waiting}
 use Rattle.board_rule.specs.Words.{Mem}
 use Rattle.board_rule.specs.Seats.{Each, times, waits_at}
-use Rattle.board_rule.specs.Soundness.{KeepsBlank, KeepsPromises, AreHands, IsRecorded, IsStored, IsRaised, IsSoundBy}
+use Rattle.board_rule.specs.Soundness.{KeepsBlank, KeepsPromises, IsRecorded, IsStored, IsRaised, IsSoundBy}
+use Rattle.board_rule.specs.Soundness.{IsAwake, EndsClaims}
 use Rattle.board_rule.specs.May.{HasRight}
 use Rattle.board_rule.specs.declared.hands.Hands.{Hands}
-use Rattle.board_rule.proofs.Lists.{each_as, absent_each, total_same, terms_le}
-use Rattle.board_rule.proofs.Frames.{awake_has, of_others_set, rights_stay}
+use Rattle.board_rule.proofs.Lists.{each_as, absent_each, terms_le}
+use Rattle.board_rule.proofs.Frames.{awake_has, rights_stay, HoldsAfter}
 use Rattle.board_rule.proofs.Rights.{held_by, rights_at, bit_runs}
 use Rattle.board_rule.proofs.Waits.{waits_stay, pending_as}
 
@@ -60,14 +61,10 @@ module _ {R : Type 0} (meaning : Meaning) (rules : R) (capacity : ℕ) (m : Mem)
   blank_stored runs old p near_p no_goal =
       let b = old p near_p no_goal in
       let ne : p ≢ place = λ e. runs (ap m.run (sym e) ∙ b.run) in
-      record {
-        run = b.run;
-        head = b.head;
-        cost = answers.cost_else p ne ∙ b.cost;
-        node = answers.node_else p ne ∙ b.node;
-        who = answers.who_else p ne ∙ b.who;
-        next = b.next;
-      }
+      let cost_is = answers.cost_else p ne ∙ b.cost in
+      let node_is = answers.node_else p ne ∙ b.node in
+      let who_is = answers.who_else p ne ∙ b.who in
+      assumption (b, cost_is, node_is, who_is)
 
   promises_stored : m.head place < 2 ^ 63 → KeepsPromises meaning capacity m.cell m.head m.cost m.node
       → KeepsPromises meaning capacity m.cell m.head cost node
@@ -96,7 +93,7 @@ module _ {R : Type 0} (meaning : Meaning) (rules : R) (capacity : ℕ) (m : Mem)
       }
 
   -- a right to another goal has its answer words elsewhere
-  stored_else : (r : Claimed) → IsStored m.cost m.node m.who r → r.place ≢ place → IsStored cost node who r
+  pub stored_else : (r : Claimed) → IsStored m.cost m.node m.who r → r.place ≢ place → IsStored cost node who r
   stored_else r old ne = record {
     cost_is = λ x e. answers.cost_else r.place ne ∙ old.cost_is x e;
     node_is = λ x e. answers.node_else r.place ne ∙ old.node_is x e;
@@ -113,18 +110,21 @@ module _ {R : Type 0} (meaning : Meaning) (rules : R) (capacity : ℕ) (m : Mem)
         (old.others b (subst (λ n. n ≤ b) (answers.same_waits r) more) few);
   }
 
-  -- the board is sound by kinds once a seat has stored an answer word of a goal that it holds
-  pub store_keeps : (views : List (Hands R)) (id : ℕ) (v : Hands R) (kept : Option (List ℕ))
+  -- what holds once a seat has stored an answer word of a goal that it holds
+  pub answer_holds : (views : List (Hands R)) (id : ℕ) (v : Hands R) (kept : Option (List ℕ))
       → get_elem? views id ≡ some v → 0 < v.parts → HasRight capacity v.rights place
       → IsSoundBy meaning rules capacity m views
-      → IsSoundBy meaning rules capacity (record m { cost = cost; node = node; who = who })
-      (set views id (record v { alone = kept; rights = map stores v.rights }))
-  store_keeps views id v kept mine some_part has k =
-      let n : Mem = record m { cost = cost; node = node; who = who } in
+      → HoldsAfter meaning rules capacity m (record m { cost = cost; node = node; who = who }) views id
+      (record v { alone = kept; rights = map stores v.rights })
+  answer_holds views id v kept mine some_part has k =
       let w : Hands R = record v { alone = kept; rights = map stores v.rights } in
       let own = k.hands id v mine in
       let is = held_by capacity m.run m.head views id v place mine has k.rights in
       let counts = times_map stores answers.same_place in
+      let recorded : (done : List Ended) → Each (IsRecorded capacity m.head m.cost m.node m.who) done
+      → Each (IsRecorded capacity m.head cost node who) done =
+      each_as (IsRecorded capacity m.head m.cost m.node m.who) (IsRecorded capacity m.head cost node who)
+      (recorded_stored is.is_open) in
       record {
         cells = k.cells;
         blank = blank_stored (bit_runs (m.run place) 8 (omega (arith, is.runs))) k.blank;
@@ -132,54 +132,30 @@ module _ {R : Type 0} (meaning : Meaning) (rules : R) (capacity : ℕ) (m : Mem)
         waits = waits_stay meaning capacity m.cell m.head m.next m.run views id v w mine refl k.waits;
         promises = promises_stored is.is_open k.promises;
         full = k.full;
-        hands = of_others_set (AreHands meaning rules capacity m) (AreHands meaning rules capacity n) views id w
-            (λ other u ne there h.
+        others = λ other u ne there h.
             let both = terms_le (λ (x : Hands R). rights_at place x.rights) views id other v u ne mine there in
             let none : rights_at place u.rights ≡ 0 = omega (arith, both, is.held_once, is.right_once) in
-            record {
-              stays = h.stays;
-              absence = h.absence;
-              recorded = each_as (IsRecorded capacity m.head m.cost m.node m.who)
-                  (IsRecorded capacity m.head cost node who)
-                  (recorded_stored is.is_open) u.done h.recorded;
-              stored = each_both (IsStored m.cost m.node m.who) (λ r. r.place ≢ place) (IsStored cost node who)
-                  stored_else u.rights h.stored
-                  (absent_each (λ (r : Claimed). r.place) place u.rights none);
-              ends = h.ends;
-              raised = h.raised;
-              pends = h.pends;
-              walked = h.walked;
-              awake = h.awake;
+            let stored = each_both (IsStored m.cost m.node m.who) (λ r. r.place ≢ place) (IsStored cost node who)
+            stored_else u.rights h.stored (absent_each (λ (r : Claimed). r.place) place u.rights none) in
+            assumption (h, recorded u.done h.recorded, stored);
+        own =
+            let stored = each_map (IsStored m.cost m.node m.who) (IsStored cost node who) stores answers.stored
+            v.rights own.stored in
+            let raised = each_map (IsRaised m.run v.pending) (IsRaised m.run v.pending) stores raised_stored v.rights
+            own.raised in
+            let ends : EndsClaims w = λ p. omega (arith, own.ends p, counts p v.rights) in
+            let pends = pending_as meaning capacity m.cell m.next m.cell m.next v.looks v.looks v.rights w.rights
+            v.pending
+            (λ x at old. record {
+              has = record {
+                near = old.has.near;
+                held = let h = old.has.held in omega (arith, counts (x.waiter / 8) v.rights);
+              };
+              its_wait = waits_map stores answers.same_place answers.same_waits (x.waiter / 8) v.rights ∙ old.its_wait;
+              seen = old.seen;
+              looked = old.looked;
             })
-            k.hands
-            (record {
-              stays = own.stays;
-              absence = own.absence;
-              recorded = each_as (IsRecorded capacity m.head m.cost m.node m.who)
-                  (IsRecorded capacity m.head cost node who)
-                  (recorded_stored is.is_open) v.done own.recorded;
-              stored = each_map (IsStored m.cost m.node m.who) (IsStored cost node who) stores answers.stored v.rights
-                  own.stored;
-              ends = λ p. omega (arith, own.ends p, counts p v.rights);
-              raised = each_map (IsRaised m.run v.pending) (IsRaised m.run v.pending) stores raised_stored v.rights
-                  own.raised;
-              pends = pending_as meaning capacity m.cell m.next m.cell m.next v.looks v.looks v.rights
-                  (map stores v.rights)
-                  v.pending
-                  (λ x at old. record {
-                    has = record {
-                      near = old.has.near;
-                      held = let h = old.has.held in
-                          omega (arith, counts (x.waiter / 8) v.rights);
-                    };
-                    its_wait = waits_map stores answers.same_place answers.same_waits (x.waiter / 8) v.rights
-                        ∙ old.its_wait;
-                    seen = old.seen;
-                    looked = old.looked;
-                  })
-                  own.pends;
-              walked = own.walked;
-              awake = inr (awake_has rules capacity v some_part own.awake);
-            });
-        parts = total_same (λ (h : Hands R). h.parts) views id v w mine refl ∙ k.parts;
+            own.pends in
+            let awake : IsAwake rules capacity w = inr (awake_has rules capacity v some_part own.awake) in
+            assumption (own, recorded v.done own.recorded, stored, raised, ends, pends, awake);
       }

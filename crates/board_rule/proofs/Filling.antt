@@ -1,20 +1,21 @@
 -- A store of 1 in the full word keeps soundness.
-use Rattle.std.proofs.Common.{length-set, ◌≡◌, ℕ, ◌<◌, List, ◌∷◌, set, sym, refl, subst, ◌∙◌, inr, ⊎_elim, arith}
+use Rattle.std.proofs.Common.{◌≡◌, ℕ, ◌<◌, List, set, sym, refl, ◌∙◌, inr, arith}
 use mathlib.Core.Option.{some, none}
 use lib.ListN.{get_elem?}
 use Rattle.atomic_table.specs.Table.{keeps, step, Allows}
 use Rattle.board_rule.specs.Meaning.{Meaning}
 use Rattle.board_rule.specs.Words.{Mem, mem, full_word}
 use Rattle.board_rule.specs.Seats.{filled}
-use Rattle.board_rule.specs.Soundness.{Stays, AreHands, IsFull, IsSoundBy, IsSound}
+use Rattle.board_rule.specs.Soundness.{Stays, IsFull, IsSound, IsAwake}
 use Rattle.board_rule.specs.May.{MayFill, HasPart}
 use Rattle.board_rule.specs.Plays.{Sat, TellsFill}
 use Rattle.board_rule.specs.declared.hands.Hands.{Hands}
-use Rattle.board_rule.proofs.Lists.{total_same}
 use Rattle.board_rule.proofs.Stores.{put_full}
-use Rattle.board_rule.proofs.Frames.{awake_has, of_others_set, rights_stay, alone_set}
+use Rattle.board_rule.proofs.Frames.{awake_has, rights_stay, store_keeps}
 use Rattle.board_rule.proofs.Waits.{waits_stay, pending_looked}
 use Rattle.board_rule.proofs.Looking.{Holds}
+use Rattle.board_rule.proofs.Truths.{stays_looked}
+use Rattle.board_rule.specs.Looks.{RemembersAbsence}
 
 -- other words seen in all cells, none of them this one, show the board full
 fills : {R : Type 0} (meaning : Meaning) (capacity : ℕ) (cell head : ℕ → ℕ) (full : ℕ) (v : Hands R)
@@ -32,20 +33,8 @@ fills meaning capacity cell head full v stays may = record {
 -- what was seen stays where the full word is set
 stays_full : (cell head : ℕ → ℕ) (full : ℕ) (looks : List (ℕ × ℕ)) → Stays cell head full looks
     → Stays cell head 1 looks
-stays_full cell head full looks old = record {
-  cells = old.cells;
-  heads = old.heads;
-  set_full = λ found at some_found none. absurd (omega arith);
-}
-
--- also where it is seen set
-stays_filled : (cell head : ℕ → ℕ) (looks : List (ℕ × ℕ)) → Stays cell head 1 looks
-    → Stays cell head 1 ((full_word, 1) ∷ looks)
-stays_filled cell head looks old = record {
-  cells = λ p x at some_found. ⊎_elim (λ t. absurd (omega (arith, t.0))) (λ t. old.cells p x t some_found) at;
-  heads = λ p x at. ⊎_elim (λ t. absurd (omega (arith, t.0))) (λ t. old.heads p x t) at;
-  set_full = λ found at some_found none. absurd (omega arith);
-}
+stays_full cell head full looks old =
+    record { cells = old.cells; heads = old.heads; set_full = λ found at some_found none. absurd (omega arith) }
 
 module _ {R : Type 0} (meaning_of : R → Meaning) (rules : R) (capacity : ℕ) where
   -- a board is sound once a seat that found all cells taken has set the full word
@@ -61,47 +50,28 @@ module _ {R : Type 0} (meaning_of : R → Meaning) (rules : R) (capacity : ℕ) 
       let k = sound.by_kinds in
       let own = k.hands id v mine in
       let count = sound.count in
-      record {
-        count = length-set words full_word 1 ∙ count;
-        by_kinds = subst (λ b. IsSoundBy meaning rules capacity b (set views id w))
-            (sym (put_full words 1 (omega arith)))
-            (record {
-              cells = k.cells;
-              blank = λ p near no_goal. let b = k.blank p near no_goal in
-                  record { run = b.run; head = b.head; cost = b.cost; node = b.node; who = b.who; next = b.next };
-              rights = rights_stay capacity m.run m.head views id v w mine (λ _. refl) refl k.rights;
-              waits = waits_stay meaning capacity m.cell m.head m.next m.run views id v w mine refl k.waits;
-              promises = k.promises;
-              full = λ _. fills meaning capacity m.cell m.head m.full v own.stays may;
-              hands = of_others_set (AreHands meaning rules capacity m) (AreHands meaning rules capacity n) views id w
-                  (λ other u ne there h. record {
-                    stays = stays_full m.cell m.head m.full u.looks h.stays;
-                    absence = h.absence;
-                    recorded = h.recorded;
-                    stored = h.stored;
-                    ends = h.ends;
-                    raised = h.raised;
-                    pends = h.pends;
-                    walked = h.walked;
-                    awake = h.awake;
-                  })
-                  k.hands
-                  (record {
-                    stays = stays_filled m.cell m.head v.looks (stays_full m.cell m.head m.full v.looks own.stays);
-                    absence = ((λ none. absurd (omega arith)), own.absence);
-                    recorded = own.recorded;
-                    stored = own.stored;
-                    ends = own.ends;
-                    raised = own.raised;
-                    pends = pending_looked meaning capacity m.cell m.next
-                        (full_word, 1) v.looks v.rights v.pending own.pends;
-                    walked = own.walked;
-                    awake = inr (awake_has rules capacity v some_part own.awake);
-                  });
-              parts = total_same (λ (h : Hands R). h.parts) views id v w mine refl ∙ k.parts;
-            });
-        alone = alone_set words views id full_word 1 v w mine refl sound.alone;
-      }
+      store_keeps meaning rules capacity words views id v w full_word 1 n sound mine (put_full words 1 (omega arith))
+      refl refl
+      (record {
+        cells = k.cells;
+        blank = λ p near no_goal. let b = k.blank p near no_goal in assumption b;
+        rights = rights_stay capacity m.run m.head views id v w mine (λ _. refl) refl k.rights;
+        waits = waits_stay meaning capacity m.cell m.head m.next m.run views id v w mine refl k.waits;
+        promises = k.promises;
+        full = λ _. fills meaning capacity m.cell m.head m.full v own.stays may;
+        others = λ other u ne there h.
+            let stays = stays_full m.cell m.head m.full u.looks h.stays in
+            assumption (h, stays);
+        own =
+            let stays = stays_looked m.cell m.head 1 v.looks full_word 1 (λ p e. absurd (omega arith))
+            (λ p e. absurd (omega arith)) (λ _ some_found. some_found)
+            (stays_full m.cell m.head m.full v.looks own.stays) in
+            let absence : RemembersAbsence meaning capacity w.looks = ((λ none. absurd (omega arith)), own.absence) in
+            let pends = pending_looked meaning capacity m.cell m.next (full_word, 1) v.looks v.rights v.pending
+            own.pends in
+            let awake : IsAwake rules capacity w = inr (awake_has rules capacity v some_part own.awake) in
+            assumption (own, stays, absence, pends, awake);
+      })
 
   pub fill_allowed : (slots id : ℕ) (me : Sat R) → HasPart me.0 → MayFill (meaning_of rules) capacity me.0
       → Allows (Holds meaning_of rules capacity) slots id me full_word (λ _. 1)

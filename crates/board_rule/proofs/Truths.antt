@@ -1,13 +1,14 @@
 -- What looks show is so.
-use Rattle.std.proofs.Common.{◌≡◌, ℕ, List, ◌∷◌, get_or, sym, ap, subst, ◌∙◌, inl, inr, ⊎_elim}
+use Rattle.std.proofs.Common.{◌≡◌, ℕ, List, ◌∷◌, get_or, sym, ap, subst, ◌∙◌, inl, inr, ⊎_elim, ◌≢◌}
 use Rattle.word_table.specs.Probing.{home_of, steps_to, PassesOthers}
 use Rattle.word_table.proofs.ProbingLemmas.{lacks_at_empty}
 use Rattle.board_rule.specs.Meaning.{Meaning}
-use Rattle.board_rule.specs.Words.{Mem, mem, cell_word}
+use Rattle.board_rule.specs.Words.{Mem, mem, cell_word, full_word, head_word}
 use Rattle.board_rule.specs.Looks.{SawOthers, ShowsFinished, seen_closed, child_of, ShowsEntry, seen_there, asked_by}
 use Rattle.board_rule.specs.Looks.{finished, ShowsPromise, ForgetsNone}
 use Rattle.board_rule.proofs.Chains.{later_closed}
 use Rattle.board_rule.specs.Soundness.{AreCells, Stands, IsFinished, IsPromised, KeepsPromises, Stays}
+use Rattle.board_rule.specs.Waiters.{IsLater}
 
 module _ (meaning : Meaning) (capacity : ℕ) (m : Mem) (promises : KeepsPromises meaning capacity m.cell m.head m.cost
     m.node)
@@ -53,15 +54,25 @@ module _ (meaning : Meaning) (capacity : ℕ) (m : Mem) (promises : KeepsPromise
       lacks_at_empty capacity m.cell word place cells.are_set t.2 near (none place is)
       (saw_passes word (steps_to capacity (home_of word capacity) place) saw) t.0 t.1 t.3
 
+-- what was seen stays, and so does what one look more has found
+pub stays_looked : (cell head : ℕ → ℕ) (full : ℕ) (looks : List (ℕ × ℕ)) (word found : ℕ)
+    → ((p : ℕ) → word ≡ cell_word p → found ≢ 0 → cell p ≡ found)
+    → ((p : ℕ) → word ≡ head_word p → IsLater found (head p))
+    → (word ≡ full_word → found ≢ 0 → full ≢ 0)
+    → Stays cell head full looks → Stays cell head full ((word, found) ∷ looks)
+stays_looked cell head full looks word found in_cell in_head in_full old = record {
+  cells = λ p x at some_x. ⊎_elim (λ t. in_cell p t.0 (λ none. some_x (sym t.1 ∙ none)) ∙ t.1)
+      (λ t. old.cells p x t some_x) at;
+  heads = λ p x at. ⊎_elim (λ t. subst (λ y. IsLater y (head p)) t.1 (in_head p t.0)) (λ t. old.heads p x t) at;
+  set_full = λ x at some_x. ⊎_elim (λ t. in_full t.0 (λ none. some_x (sym t.1 ∙ none)))
+      (λ t. old.set_full x t some_x) at;
+}
+
 -- a look at a word finds what stays so
 pub look_stays : (words : List ℕ) (word : ℕ) (looks : List (ℕ × ℕ))
     → Stays (mem words).cell (mem words).head (mem words).full looks
     → Stays (mem words).cell (mem words).head (mem words).full ((word, get_or words word 0) ∷ looks)
-look_stays words word looks stays = record {
-  cells = λ p found at some. ⊎_elim (λ t. ap (λ k. get_or words k 0) (sym t.0) ∙ t.1)
-      (λ old. stays.cells p found old some) at;
-  heads = λ p found at. ⊎_elim (λ t. inr (inl (ap (λ k. get_or words k 0) (sym t.0) ∙ t.1)))
-      (λ old. stays.heads p found old) at;
-  set_full = λ found at some. ⊎_elim (λ t. λ none. some (sym t.1 ∙ ap (λ k. get_or words k 0) t.0 ∙ none))
-      (λ old. stays.set_full found old some) at;
-}
+look_stays words word looks =
+    stays_looked (mem words).cell (mem words).head (mem words).full looks word (get_or words word 0)
+    (λ p e _. ap (λ k. get_or words k 0) (sym e)) (λ p e. inr (inl (ap (λ k. get_or words k 0) (sym e))))
+    (λ e some_found none. some_found (ap (λ k. get_or words k 0) e ∙ none))
