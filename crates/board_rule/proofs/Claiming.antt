@@ -4,8 +4,7 @@ use Rattle.std.proofs.Common.{sym, refl, ap, subst, ◌∙◌, inr, arith}
 use mathlib.Core.Option.{some, none}
 use lib.ListN.{get_elem?}
 use prog.Atomic.{either}
-use Rattle.atomic_table.specs.Table.{keeps, step, Allows}
-use Rattle.atomic_table.proofs.Lists.{exchanged}
+use Rattle.atomic_table.specs.Table.{step, Allows}
 use Rattle.std.specs.Int.{bit_at}
 use Rattle.std.proofs.lemmas.Nat.Bits.{bit_at-zero, bit_at-pow_other}
 use Rattle.board_rule.specs.Meaning.{Meaning}
@@ -14,15 +13,14 @@ use Rattle.board_rule.specs.Seats.{waits_at, fresh_right, looked, claimed}
 use Rattle.board_rule.specs.Soundness.{HoldsGoal, KeepsRights, ArePending, IsSound}
 use Rattle.board_rule.specs.Soundness.{held, ended}
 use Rattle.board_rule.specs.May.{MayClaim, HasPart}
-use Rattle.board_rule.specs.Plays.{Sat, TellsClaim, ClaimsAt, Tells}
+use Rattle.board_rule.specs.Plays.{Sat, TellsClaim}
 use Rattle.board_rule.specs.declared.hands.Hands.{Hands}
 use Rattle.board_rule.proofs.Lists.{put_here, put_else, term_le, counts_one, counts_none}
-use Rattle.board_rule.proofs.Frames.{moment_of}
 use Rattle.board_rule.proofs.Waits.{SameBits, handed_same, waits_as, raised_as, pending_as, same_bits_put, none_pending}
 use Rattle.board_rule.proofs.RunWords.{blank_run, run_step_keeps}
 use Rattle.board_rule.proofs.Looking.{Holds}
-use Rattle.board_rule.proofs.Putting.{Leads, miss_leads}
 use Rattle.board_rule.proofs.Rights.{rights_at, held-set, ended-set, rights_moved}
+use Rattle.board_rule.proofs.Putting.{tries_allowed}
 
 -- 256 has the held bit alone
 pub held_alone : (i : ℕ) → i ≢ 8 → bit_at 256 i ≡ 0
@@ -120,47 +118,11 @@ module _ {R : Type 0} (meaning_of : R → Meaning) (rules : R) (capacity : ℕ) 
         walked = own.walked;
       })
 
-  claim_at : (slots id : ℕ) (me : Sat R) (place : ℕ) → 0 < me.0.parts
-      → MayClaim (meaning_of rules) capacity me.0 place
-      → Allows (Holds meaning_of rules capacity) slots id me (run_word place) (λ n. either (eqb n 0) 256 n)
-      (TellsClaim meaning_of (step slots (run_word place) 0 256 none) me)
-  claim_at slots id me place some_part may s sound homes mine fits =
-      let i : ℕ = run_word place in
-      let then : ℕ → Sat R → Type 0 = TellsClaim meaning_of (step slots i 0 256 none) me in
-      let moment = moment_of meaning_of rules capacity s.words s.views id me.0 i sound mine some_part in
-      exchanged (get_or s.words i 0) 0 256 (Leads meaning_of rules capacity s i id me then)
-      (λ hit. (
-        claimed me.0 place,
-        keeps,
-        tt,
-        claim_keeps s.words s.views id me.0 place sound mine some_part may hit,
-        λ p same. let e : place ≡ p = omega (arith, same) in
-            subst (λ q. Tells meaning_of (ClaimsAt meaning_of me.0 q (get_or s.words i 0)) me
-            (claimed me.0 place, me.1)) e
-            (record {
-              hands = record { hit = λ _. refl; miss = λ miss. absurd (miss hit); moment = moment };
-              slots = refl;
-            }),
-      ))
-      (λ miss. (
-        looked me.0 i (get_or s.words i 0),
-        keeps,
-        tt,
-        miss_leads meaning_of rules capacity s id me i some_part sound mine,
-        λ p same. let e : place ≡ p = omega (arith, same) in
-            subst (λ q. Tells meaning_of (ClaimsAt meaning_of me.0 q (get_or s.words i 0)) me
-            (looked me.0 i (get_or s.words i 0), me.1)) e
-            (record {
-              hands = record { hit = λ hit. absurd (miss hit); miss = λ _. refl; moment = moment };
-              slots = refl;
-            }),
-      ))
-
   pub claim_allowed : (slots id : ℕ) (me : Sat R) (i place : ℕ) → i ≡ run_word place → HasPart me.0
       → MayClaim (meaning_of rules) capacity me.0 place
       → Allows (Holds meaning_of rules capacity) slots id me i (λ n. either (eqb n 0) 256 n)
       (TellsClaim meaning_of (step slots i 0 256 none) me)
   claim_allowed slots id me i place is some_part may =
-      subst (λ j. Allows (Holds meaning_of rules capacity) slots id me j (λ n. either (eqb n 0) 256 n)
-      (TellsClaim meaning_of (step slots j 0 256 none) me)) (sym is)
-      (claim_at slots id me place some_part may)
+      rw is (tries_allowed meaning_of rules capacity slots id me place 256 run_word (λ p. claimed me.0 p)
+      (λ p same. omega arith) some_part
+      (λ words views sound mine hit. claim_keeps words views id me.0 place sound mine some_part may hit))

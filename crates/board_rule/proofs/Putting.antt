@@ -1,9 +1,8 @@
 -- A compare-exchange of a cell from 0 to an entry keeps soundness.
-use Rattle.std.proofs.Common.{IsTrue, length-set, ◌≡◌, ℕ, ◌^◌, ◌<◌, ◌≤◌, ◌≢◌, List, ◌∷◌, get_or, set, eqb, sym, refl}
+use Rattle.std.proofs.Common.{IsTrue, ◌≡◌, ℕ, ◌^◌, ◌<◌, ◌≤◌, ◌≢◌, List, ◌∷◌, get_or, set, eqb, sym, refl}
 use Rattle.std.proofs.Common.{ap, subst, ◌∙◌, inr, ⊎_elim, arith}
 use mathlib.Core.Option.{some, none}
 use lib.ListN.{get_elem?}
-use lib.Seq.{set-get_or}
 use prog.Atomic.{either}
 use Rattle.std.proofs.lemmas.Bool.{cases_eq}
 use Rattle.atomic_table.specs.Table.{State, Act, keeps, Valid, carried_after, stepped, step, Allows}
@@ -14,18 +13,19 @@ use Rattle.board_rule.specs.Meaning.{Meaning}
 use Rattle.board_rule.specs.Words.{Mem, mem, put, cell_word}
 use Rattle.board_rule.specs.Seats.{looked, placed}
 use Rattle.board_rule.specs.Soundness.{AreCells, HoldsGoal, IsBlank, KeepsBlank, IsPromised, KeepsPromises, Stays}
-use Rattle.board_rule.specs.Soundness.{AreHands}
-use Rattle.board_rule.specs.Soundness.{IsSoundBy, IsSound}
+use Rattle.board_rule.specs.Soundness.{IsAwake}
+use Rattle.board_rule.specs.Soundness.{IsSound}
 use Rattle.board_rule.specs.May.{MayPut, HasPart}
-use Rattle.board_rule.specs.Plays.{Sat, TellsPut, PutsIn, Tells}
+use Rattle.board_rule.specs.Plays.{Sat, TellsPut, Tells, Tries}
 use Rattle.board_rule.specs.declared.hands.Hands.{Hands}
-use Rattle.board_rule.proofs.Lists.{put_here, put_else, put_cases, total_same}
+use Rattle.board_rule.proofs.Lists.{put_here, put_else, put_cases}
 use Rattle.board_rule.proofs.Stores.{put_cell}
-use Rattle.board_rule.proofs.Frames.{awake_has, of_others_set, rights_stay, alone_set, moment_of}
+use Rattle.board_rule.proofs.Frames.{awake_has, rights_stay, moment_of, store_keeps}
 use Rattle.board_rule.proofs.Waits.{waits_stay, pending_looked}
 use Rattle.board_rule.proofs.CellWaits.{waits_put, pends_put, walked_put}
-use Rattle.board_rule.proofs.Truths.{saw_passes, forgets_none}
-use Rattle.board_rule.proofs.Looking.{Holds, look_keeps}
+use Rattle.board_rule.proofs.Truths.{saw_passes, forgets_none, stays_looked}
+use Rattle.board_rule.proofs.Looking.{Holds, look_keeps, load_keeps}
+use Rattle.board_rule.specs.Looks.{Looked, RemembersAbsence}
 
 -- what a word in an empty cell leaves of each topic
 module _ (meaning : Meaning) (capacity : ℕ) (m : Mem) (place word : ℕ) (empty : m.cell place ≡ 0) where
@@ -55,8 +55,7 @@ module _ (meaning : Meaning) (capacity : ℕ) (m : Mem) (place word : ℕ) (empt
       is)) (cases_eq p place)
 
   blank_put : KeepsBlank meaning capacity m → KeepsBlank meaning capacity (record m { cell = put m.cell place word })
-  blank_put old p near no_goal = let b = old p near (was_no_goal p no_goal) in
-      record { run = b.run; head = b.head; cost = b.cost; node = b.node; who = b.who; next = b.next }
+  blank_put old p near no_goal = let b = old p near (was_no_goal p no_goal) in assumption b
 
   promised_put : (goal : ℕ) → IsPromised meaning capacity m.cell m.head goal
       → IsPromised meaning capacity (put m.cell place word) m.head goal
@@ -81,25 +80,22 @@ module _ (meaning : Meaning) (capacity : ℕ) (m : Mem) (place word : ℕ) (empt
 
   stays_put : (looks : List (ℕ × ℕ)) → Stays m.cell m.head m.full looks
       → Stays (put m.cell place word) m.head m.full looks
-  stays_put looks old = record {
-    cells = λ p found at some. taken_stays p found some (old.cells p found at some);
-    heads = old.heads;
-    set_full = old.set_full;
-  }
+  stays_put looks old =
+      let cells : (p found : ℕ) → Looked looks (cell_word p) found → found ≢ 0 → put m.cell place word p ≡ found =
+      λ p found at some. taken_stays p found some (old.cells p found at some) in
+      assumption (old, cells)
 
   -- the seat's own looks: it found the cell empty, and then the word there
   own_stays_put : (looks : List (ℕ × ℕ)) → Stays m.cell m.head m.full looks
       → Stays (put m.cell place word) m.head m.full ((cell_word place, word) ∷ ((cell_word place, 0) ∷ looks))
-  own_stays_put looks old = let kept = stays_put looks old in record {
-    cells = λ p found at some. ⊎_elim
-        (λ t. let here : p ≡ place = omega (arith, t.0) in ap (put m.cell place word) here ∙ put_here m.cell place word
-        ∙ t.1)
-        (⊎_elim (λ t. absurd (some (sym t.1))) (λ old_look. kept.cells p found old_look some)) at;
-    heads = λ p found at. ⊎_elim (λ t. absurd (omega (arith, t.0)))
-        (⊎_elim (λ t. absurd (omega (arith, t.0))) (λ old_look. kept.heads p found old_look)) at;
-    set_full = λ found at some. ⊎_elim (λ t. absurd (omega (arith, t.0)))
-        (⊎_elim (λ t. absurd (omega (arith, t.0))) (λ old_look. kept.set_full found old_look some)) at;
-  }
+  own_stays_put looks old =
+      stays_looked (put m.cell place word) m.head m.full ((cell_word place, 0) ∷ looks) (cell_word place) word
+      (λ p e _. let here : p ≡ place = omega (arith, e) in
+      ap (put m.cell place word) here ∙ put_here m.cell place word)
+      (λ p e. absurd (omega (arith, e))) (λ e. absurd (omega (arith, e)))
+      (stays_looked (put m.cell place word) m.head m.full looks (cell_word place) 0 (λ p e some_found.
+      absurd (some_found refl)) (λ p e. absurd (omega (arith, e))) (λ e. absurd (omega (arith, e)))
+      (stays_put looks old))
 
 module _ {R : Type 0} (meaning_of : R → Meaning) (rules : R) (capacity : ℕ) where
   -- a board is sound once a seat has put a word into an empty cell
@@ -120,51 +116,35 @@ module _ {R : Type 0} (meaning_of : R → Meaning) (rules : R) (capacity : ℕ) 
       let blank : IsBlank meaning capacity m place = k.blank place near (λ is. is.0 empty) in
       let forgets = forgets_none meaning capacity m k.promises v.looks own.stays k.cells (cell_word place)
       (λ p e. ap (λ i. get_or words i 0) e ∙ empty) in
-      record {
-        count = length-set words (cell_word place) word ∙ count;
-        by_kinds = subst (λ b. IsSoundBy meaning rules capacity b (set views id w))
-            (sym (put_cell words place word (omega arith))) (record {
-              cells = cells_put meaning capacity m place word empty k.cells v own.stays k.promises may;
-              blank = blank_put meaning capacity m place word empty k.blank;
-              rights = rights_stay capacity m.run m.head views id v w mine (λ p. refl) refl k.rights;
-              waits = waits_stay meaning capacity n.cell m.head m.next m.run views id v w mine refl
-                  (waits_put meaning capacity m views place word empty k.blank k.waits);
-              promises = promises_put meaning capacity m place word empty blank.head k.promises;
-              full = λ set_full. absurd ((k.full set_full).taken place near empty);
-              hands = of_others_set (AreHands meaning rules capacity m) (AreHands meaning rules capacity n) views id w
-                  (λ other u ne there h. record {
-                    stays = stays_put meaning capacity m place word empty u.looks h.stays;
-                    absence = h.absence;
-                    recorded = h.recorded;
-                    stored = h.stored;
-                    ends = h.ends;
-                    raised = h.raised;
-                    pends = pends_put meaning capacity m views place word empty k.blank k.waits other u there
-                        u.looks u.rights h.pends;
-                    walked = walked_put meaning capacity m views place word empty k.blank k.waits other u there
-                        h.walked;
-                    awake = h.awake;
-                  })
-                  k.hands
-                  (record {
-                    stays = own_stays_put meaning capacity m place word empty v.looks own.stays;
-                    absence = ((λ e. absurd (may.is_word e)), ((λ _. forgets), own.absence));
-                    recorded = own.recorded;
-                    stored = own.stored;
-                    ends = own.ends;
-                    raised = own.raised;
-                    pends = pending_looked meaning capacity n.cell m.next (cell_word place, word)
-                        ((cell_word place, 0) ∷ v.looks) v.rights v.pending
-                        (pending_looked meaning capacity n.cell m.next (cell_word place, 0) v.looks v.rights v.pending
-                        (pends_put meaning capacity m views place word empty k.blank k.waits id v mine v.looks v.rights
-                        own.pends));
-                    walked = walked_put meaning capacity m views place word empty k.blank k.waits id v mine own.walked;
-                    awake = inr (awake_has rules capacity v some_part own.awake);
-                  });
-              parts = total_same (λ (h : Hands R). h.parts) views id v w mine refl ∙ k.parts;
-            });
-        alone = alone_set words views id (cell_word place) word v w mine refl sound.alone;
-      }
+      store_keeps meaning rules capacity words views id v w (cell_word place) word n sound mine
+      (put_cell words place word (omega arith)) refl refl
+      (record {
+        cells = cells_put meaning capacity m place word empty k.cells v own.stays k.promises may;
+        blank = blank_put meaning capacity m place word empty k.blank;
+        rights = rights_stay capacity m.run m.head views id v w mine (λ p. refl) refl k.rights;
+        waits = waits_stay meaning capacity n.cell m.head m.next m.run views id v w mine refl
+            (waits_put meaning capacity m views place word empty k.blank k.waits);
+        promises = promises_put meaning capacity m place word empty blank.head k.promises;
+        full = λ set_full. absurd ((k.full set_full).taken place near empty);
+        others = λ other u ne there h.
+            let stays = stays_put meaning capacity m place word empty u.looks h.stays in
+            let pends = pends_put meaning capacity m views place word empty k.blank k.waits other u there u.looks
+            u.rights h.pends in
+            let walked = walked_put meaning capacity m views place word empty k.blank k.waits other u there h.walked in
+            assumption (h, stays, pends, walked);
+        own =
+            let stays = own_stays_put meaning capacity m place word empty v.looks own.stays in
+            let absence : RemembersAbsence meaning capacity w.looks =
+            ((λ e. absurd (may.is_word e)), ((λ _. forgets), own.absence)) in
+            let pends = pending_looked meaning capacity n.cell m.next (cell_word place, word)
+            ((cell_word place, 0) ∷ v.looks) v.rights v.pending
+            (pending_looked meaning capacity n.cell m.next (cell_word place, 0) v.looks v.rights v.pending
+            (pends_put meaning capacity m views place word empty k.blank k.waits id v mine v.looks v.rights
+            own.pends)) in
+            let walked = walked_put meaning capacity m views place word empty k.blank k.waits id v mine own.walked in
+            let awake : IsAwake rules capacity w = inr (awake_has rules capacity v some_part own.awake) in
+            assumption (own, stays, absence, pends, walked, awake);
+      })
 
   -- what a step of a seat from 0 to a new value leads to
   abbrev pub Leads : State Unit (Hands R) → ℕ → ℕ → Sat R → (ℕ → Sat R → Type 0) → ℕ → Type 0
@@ -172,50 +152,42 @@ module _ {R : Type 0} (meaning_of : R → Meaning) (rules : R) (capacity : ℕ) 
       × Holds meaning_of rules capacity (stepped s i new id me.1 w a)
       × then (get_or s.words i 0) (w, carried_after me.1 a)
 
-  -- a compare-exchange that failed is a look
-  pub miss_leads : (s : State Unit (Hands R)) (id : ℕ) (me : Sat R) (i : ℕ) → 0 < me.0.parts
-      → Holds meaning_of rules capacity s → get_elem? s.views id ≡ some me.0
-      → Holds meaning_of rules capacity (stepped s i (get_or s.words i 0) id me.1 (looked me.0 i (get_or s.words i 0))
-      keeps)
-  miss_leads s id me i some_part sound mine =
-      subst (λ (ws : List ℕ). IsSound (meaning_of rules) rules capacity ws
-      (set s.views id (looked me.0 i (get_or s.words i 0)))) (sym (set-get_or s.words i 0))
-      (look_keeps meaning_of rules capacity s.words s.views id me.0 i sound mine some_part)
-
-  put_at : (slots id : ℕ) (me : Sat R) (place word : ℕ) → 0 < me.0.parts
-      → MayPut (meaning_of rules) capacity me.0 place word
-      → Allows (Holds meaning_of rules capacity) slots id me (cell_word place) (λ n. either (eqb n 0) word n)
-      (TellsPut meaning_of (step slots (cell_word place) 0 word none) me)
-  put_at slots id me place word some_part may s sound homes mine fits =
-      let i : ℕ = cell_word place in
-      let then : ℕ → Sat R → Type 0 = TellsPut meaning_of (step slots i 0 word none) me in
+  -- a compare-exchange from 0 is allowed where the board is sound once it has found 0
+  pub tries_allowed : (slots id : ℕ) (me : Sat R) (place x : ℕ) (word_of : ℕ → ℕ) (won : ℕ → Hands R)
+      → ((p : ℕ) → word_of place ≡ word_of p → p ≡ place) → 0 < me.0.parts
+      → ((words : List ℕ) (views : List (Hands R)) → IsSound (meaning_of rules) rules capacity words views
+      → get_elem? views id ≡ some me.0 → get_or words (word_of place) 0 ≡ 0
+      → IsSound (meaning_of rules) rules capacity (set words (word_of place) x) (set views id (won place)))
+      → Allows (Holds meaning_of rules capacity) slots id me (word_of place) (λ n. either (eqb n 0) x n)
+      (λ found after. (p : ℕ) → word_of place ≡ word_of p
+      → Tells meaning_of (Tries meaning_of me.0 (word_of p) found (won p)) me after)
+  tries_allowed slots id me place x word_of won one some_part wins s sound homes mine fits =
+      let i : ℕ = word_of place in
+      let found : ℕ = get_or s.words i 0 in
+      let missed : Hands R = looked me.0 i found in
       let moment = moment_of meaning_of rules capacity s.words s.views id me.0 i sound mine some_part in
-      exchanged (get_or s.words i 0) 0 word (Leads s i id me then)
+      exchanged found 0 x (Leads s i id me (λ y after. (p : ℕ) → i ≡ word_of p
+      → Tells meaning_of (Tries meaning_of me.0 (word_of p) y (won p)) me after))
       (λ hit. (
-        placed me.0 place word,
+        won place,
         keeps,
         tt,
-        put_keeps s.words s.views id me.0 place word sound mine some_part may hit,
-        λ p same. let e : place ≡ p = omega (arith, same) in
-            subst (λ q. Tells meaning_of (PutsIn meaning_of me.0 q word (get_or s.words i 0)) me
-            (placed me.0 place word, me.1)) e
-            (record {
-              hands = record { hit = λ _. refl; miss = λ miss. absurd (miss hit); moment = moment };
-              slots = refl;
-            }),
+        wins s.words s.views sound mine hit,
+        λ p same. rw (one p same) (record {
+          hands = record { hit = λ _. refl; miss = λ miss. absurd (miss hit); moment = moment };
+          slots = refl;
+        }),
       ))
       (λ miss. (
-        looked me.0 i (get_or s.words i 0),
+        missed,
         keeps,
         tt,
-        miss_leads s id me i some_part sound mine,
-        λ p same. let e : place ≡ p = omega (arith, same) in
-            subst (λ q. Tells meaning_of (PutsIn meaning_of me.0 q word (get_or s.words i 0)) me
-            (looked me.0 i (get_or s.words i 0), me.1)) e
-            (record {
-              hands = record { hit = λ hit. absurd (miss hit); miss = λ _. refl; moment = moment };
-              slots = refl;
-            }),
+        load_keeps meaning_of rules capacity s.words (set s.views id missed) i
+            (look_keeps meaning_of rules capacity s.words s.views id me.0 i sound mine some_part),
+        λ p same. rw (one p same) (record {
+          hands = record { hit = λ hit. absurd (miss hit); miss = λ _. refl; moment = moment };
+          slots = refl;
+        }),
       ))
 
   pub put_allowed : (slots id : ℕ) (me : Sat R) (i place word : ℕ) → i ≡ cell_word place → HasPart me.0
@@ -223,6 +195,5 @@ module _ {R : Type 0} (meaning_of : R → Meaning) (rules : R) (capacity : ℕ) 
       → Allows (Holds meaning_of rules capacity) slots id me i (λ n. either (eqb n 0) word n)
       (TellsPut meaning_of (step slots i 0 word none) me)
   put_allowed slots id me i place word is some_part may =
-      subst (λ j. Allows (Holds meaning_of rules capacity) slots id me j (λ n. either (eqb n 0) word n)
-      (TellsPut meaning_of (step slots j 0 word none) me)) (sym is)
-      (put_at slots id me place word some_part may)
+      rw is (tries_allowed slots id me place word cell_word (λ p. placed me.0 p word) (λ p same. omega arith) some_part
+      (λ words views sound mine hit. put_keeps words views id me.0 place word sound mine some_part may hit))

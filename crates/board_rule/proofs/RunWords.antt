@@ -1,29 +1,20 @@
 -- A step at a goal's run word keeps soundness where what is said of run words, rights and waits holds after it.
-use Rattle.std.proofs.Common.{length-set, ◌≡◌, ℕ, ◌<◌, ◌≢◌, List, ◌∷◌, set}
-use Rattle.std.proofs.Common.{sym, ap, subst, ◌∙◌, refl, inr, ⊎_elim, arith}
+use Rattle.std.proofs.Common.{◌≡◌, ℕ, ◌<◌, ◌≢◌, List, ◌∷◌, set}
+use Rattle.std.proofs.Common.{sym, ap, subst, ◌∙◌, refl, inr, arith}
 use mathlib.Core.Option.{some}
 use lib.ListN.{get_elem?}
 use Rattle.board_rule.specs.Meaning.{Meaning}
-use Rattle.board_rule.specs.Words.{Mem, mem, put, full_word, cell_word, run_word, head_word}
+use Rattle.board_rule.specs.Words.{Mem, mem, put, cell_word, run_word}
 use Rattle.board_rule.specs.Looks.{RemembersAbsence}
 use Rattle.board_rule.specs.Seats.{Each, changed}
-use Rattle.board_rule.specs.Soundness.{HoldsGoal, KeepsBlank, KeepsRights, KeepsWaits, Stays, AreHands, EndsClaims}
-use Rattle.board_rule.specs.Soundness.{IsStored}
-use Rattle.board_rule.specs.Soundness.{IsRaised, ArePending, IsWalked, IsSoundBy, IsSound}
+use Rattle.board_rule.specs.Soundness.{HoldsGoal, KeepsBlank, KeepsRights, KeepsWaits, AreHands, EndsClaims}
+use Rattle.board_rule.specs.Soundness.{IsStored, IsAwake}
+use Rattle.board_rule.specs.Soundness.{IsRaised, ArePending, IsWalked, IsSound}
 use Rattle.board_rule.specs.declared.hands.Hands.{Hands}
-use Rattle.board_rule.proofs.Lists.{put_else, total_same}
+use Rattle.board_rule.proofs.Lists.{put_else}
 use Rattle.board_rule.proofs.Stores.{put_run}
-use Rattle.board_rule.proofs.Frames.{awake_has, of_others_set, alone_set}
-
--- a look at a word that is no cell, no head and not the full word shows nothing that has to stay
-pub stays_beside : (cell head : ℕ → ℕ) (full : ℕ) (looks : List (ℕ × ℕ)) (word found : ℕ) → full_word ≢ word
-    → ((p : ℕ) → cell_word p ≢ word) → ((p : ℕ) → head_word p ≢ word)
-    → Stays cell head full looks → Stays cell head full ((word, found) ∷ looks)
-stays_beside cell head full looks word found no_full no_cell no_head old = record {
-  cells = λ p x at some. ⊎_elim (λ t. absurd (no_cell p (sym t.0))) (λ t. old.cells p x t some) at;
-  heads = λ p x at. ⊎_elim (λ t. absurd (no_head p (sym t.0))) (λ t. old.heads p x t) at;
-  set_full = λ x at some. ⊎_elim (λ t. absurd (no_full (sym t.0))) (λ t. old.set_full x t some) at;
-}
+use Rattle.board_rule.proofs.Frames.{awake_has, store_keeps}
+use Rattle.board_rule.proofs.Truths.{stays_looked}
 
 -- a look at a word that is no cell tells of no absence
 pub absence_beside : (meaning : Meaning) (capacity : ℕ) (looks : List (ℕ × ℕ)) (word found : ℕ)
@@ -35,27 +26,20 @@ absence_beside meaning capacity looks word found no_cell old = ((λ _ shown p _ 
 pub blank_run : (meaning : Meaning) (capacity : ℕ) (m : Mem) (place x : ℕ) → HoldsGoal meaning capacity m.cell place
     → KeepsBlank meaning capacity m
     → KeepsBlank meaning capacity (record m { run = put m.run place x })
-blank_run meaning capacity m place x holds old p near no_goal = let b = old p near no_goal in record {
-  run = put_else m.run place x p (λ e. no_goal (subst (HoldsGoal meaning capacity m.cell) (sym e) holds)) ∙ b.run;
-  head = b.head;
-  cost = b.cost;
-  node = b.node;
-  who = b.who;
-  next = b.next;
-}
+blank_run meaning capacity m place x holds old p near no_goal =
+    let b = old p near no_goal in
+    let else : p ≢ place = λ e. no_goal (subst (HoldsGoal meaning capacity m.cell) (sym e) holds) in
+    let run = put_else m.run place x p else ∙ b.run in
+    assumption (b, run)
 
 -- also where it was not 0
 pub blank_running : (meaning : Meaning) (capacity : ℕ) (m : Mem) (place x : ℕ) → m.run place ≢ 0
     → KeepsBlank meaning capacity m
     → KeepsBlank meaning capacity (record m { run = put m.run place x })
-blank_running meaning capacity m place x runs old p near no_goal = let b = old p near no_goal in record {
-  run = put_else m.run place x p (λ e. runs (ap m.run (sym e) ∙ b.run)) ∙ b.run;
-  head = b.head;
-  cost = b.cost;
-  node = b.node;
-  who = b.who;
-  next = b.next;
-}
+blank_running meaning capacity m place x runs old p near no_goal =
+    let b = old p near no_goal in
+    let run = put_else m.run place x p (λ e. runs (ap m.run (sym e) ∙ b.run)) ∙ b.run in
+    assumption (b, run)
 
 module _ {R : Type 0} (meaning_of : R → Meaning) (rules : R) (capacity : ℕ) where
   -- the seat's hands after a step at a run word
@@ -98,43 +82,22 @@ module _ {R : Type 0} (meaning_of : R → Meaning) (rules : R) (capacity : ℕ) 
       let k = sound.by_kinds in
       let own = k.hands id v mine in
       let count = sound.count in
-      record {
-        count = length-set words (run_word place) x ∙ count;
-        by_kinds = subst (λ b. IsSoundBy meaning rules capacity b (set views id w))
-            (sym (put_run words place x (omega arith))) (record {
-              cells = k.cells;
-              blank = holds.blank;
-              rights = holds.rights;
-              waits = holds.waits;
-              promises = k.promises;
-              full = k.full;
-              hands = of_others_set (AreHands meaning rules capacity m) (AreHands meaning rules capacity n) views id w
-                  (λ other u ne there h. record {
-                    stays = h.stays;
-                    absence = h.absence;
-                    recorded = h.recorded;
-                    stored = h.stored;
-                    ends = h.ends;
-                    raised = holds.others other u ne there h;
-                    pends = h.pends;
-                    walked = h.walked;
-                    awake = h.awake;
-                  })
-                  k.hands
-                  (record {
-                    stays = stays_beside m.cell m.head m.full v.looks (run_word place) found (λ e. omega arith)
-                        (λ p e. omega arith) (λ p e. omega arith) own.stays;
-                    absence = absence_beside meaning capacity v.looks (run_word place) found (λ p e. omega arith)
-                        own.absence;
-                    recorded = own.recorded;
-                    stored = holds.stored;
-                    ends = holds.ends;
-                    raised = holds.raised;
-                    pends = holds.pends;
-                    walked = holds.walked;
-                    awake = inr (awake_has rules capacity v some_part own.awake);
-                  });
-              parts = total_same (λ (h : Hands R). h.parts) views id v w mine refl ∙ k.parts;
-            });
-        alone = alone_set words views id (run_word place) x v w mine refl sound.alone;
-      }
+      store_keeps meaning rules capacity words views id v w (run_word place) x n sound mine
+      (put_run words place x (omega arith)) refl refl
+      (record {
+        cells = k.cells;
+        blank = holds.blank;
+        rights = holds.rights;
+        waits = holds.waits;
+        promises = k.promises;
+        full = k.full;
+        others = λ other u ne there h. let raised = holds.others other u ne there h in assumption (h, raised);
+        own =
+            let stays = stays_looked m.cell m.head m.full v.looks (run_word place) found
+            (λ p e. absurd (omega (arith, e))) (λ p e. absurd (omega (arith, e))) (λ e. absurd (omega (arith, e)))
+            own.stays in
+            let absence = absence_beside meaning capacity v.looks (run_word place) found (λ p e. omega (arith, e))
+            own.absence in
+            let awake : IsAwake rules capacity w = inr (awake_has rules capacity v some_part own.awake) in
+            assumption (own, holds, stays, absence, awake);
+      })

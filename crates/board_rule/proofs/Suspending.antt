@@ -14,10 +14,10 @@ use Rattle.board_rule.specs.Seats.{times, suspended}
 use Rattle.board_rule.specs.Soundness.{KeepsRights, IsStored, IsRaised, ArePending, IsSound, held}
 use Rattle.board_rule.specs.Soundness.{ended}
 use Rattle.board_rule.specs.May.{HasPart, HasRight, MaySuspend}
-use Rattle.board_rule.specs.Plays.{Sat, TellsSuspend, SuspendsAt, Tells}
+use Rattle.board_rule.specs.Plays.{Sat, TellsSuspend}
 use Rattle.board_rule.specs.declared.hands.Hands.{Hands}
 use Rattle.board_rule.proofs.Lists.{put_here, put_else, counts_one, counts_none}
-use Rattle.board_rule.proofs.Frames.{moment_of}
+use Rattle.board_rule.proofs.Frames.{told_left}
 use Rattle.board_rule.proofs.Chains.{cleared_same, cleared_other, cleared_none}
 use Rattle.board_rule.proofs.Waits.{SameBits, handed_same, waits_as, raised_as, same_bits_put}
 use Rattle.board_rule.proofs.Looking.{Holds}
@@ -101,32 +101,20 @@ module _ {R : Type 0} (meaning_of : R → Meaning) (rules : R) (capacity : ℕ) 
         walked = own.walked;
       })
 
-  suspend_at : (slots id : ℕ) (me : Sat R) (place : ℕ) → 0 < me.0.parts → MaySuspend capacity me.0 place
-      → Allows (Holds meaning_of rules capacity) slots id me (run_word place) (λ n. bit_and n 18446744073709551359)
-      (TellsSuspend meaning_of (step slots (run_word place) 18446744073709551359 0 none) me)
-  suspend_at slots id me place some_part may s sound homes mine fits =
-      let found : ℕ = get_or s.words (run_word place) 0 in (
-        suspended me.0 place found,
-        keeps,
-        tt,
-        suspend_keeps s.words s.views id me.0 place sound mine some_part may,
-        λ p same. let e : place ≡ p = omega (arith, same) in
-            subst (λ q. Tells meaning_of (SuspendsAt meaning_of me.0 q found) me (suspended me.0 place found, me.1)) e
-            (record {
-              hands = record {
-                hands_are = refl;
-                moment = moment_of meaning_of rules capacity s.words s.views id me.0 (run_word place) sound mine
-                    some_part;
-              };
-              slots = refl;
-            }),
-      )
-
   pub suspend_allowed : (slots id : ℕ) (me : Sat R) (i place : ℕ) → i ≡ run_word place → HasPart me.0
       → MaySuspend capacity me.0 place
       → Allows (Holds meaning_of rules capacity) slots id me i (λ n. bit_and n 18446744073709551359)
       (TellsSuspend meaning_of (step slots i 18446744073709551359 0 none) me)
   suspend_allowed slots id me i place is some_part may =
-      subst (λ j. Allows (Holds meaning_of rules capacity) slots id me j (λ n. bit_and n 18446744073709551359)
-      (TellsSuspend meaning_of (step slots j 18446744073709551359 0 none) me)) (sym is)
-      (suspend_at slots id me place some_part may)
+      rw is (λ s sound homes mine fits.
+      let left : Hands R = suspended me.0 place (get_or s.words (run_word place) 0) in (
+        left,
+        keeps,
+        tt,
+        suspend_keeps s.words s.views id me.0 place sound mine some_part may,
+        λ p same.
+            let p_is : p ≡ place = omega (arith, same) in
+            rw p_is
+            (told_left meaning_of rules capacity s.words s.views id me.0 (run_word place) sound mine some_part left
+            me.1),
+      ))

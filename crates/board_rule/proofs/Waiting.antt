@@ -13,11 +13,11 @@ use Rattle.board_rule.specs.Waiters.{wait_bit}
 use Rattle.board_rule.specs.Seats.{Each, waits_at, in_hand, wait_begun}
 use Rattle.board_rule.specs.Soundness.{IsRaised, KeepsRights, KeepsWaits, IsSound, held, ended}
 use Rattle.board_rule.specs.May.{HasPart, HasRight, MayBegin}
-use Rattle.board_rule.specs.Plays.{Sat, TellsBeginWait, BeginsAt, Tells}
+use Rattle.board_rule.specs.Plays.{Sat, TellsBeginWait}
 use Rattle.board_rule.specs.declared.hands.Hands.{Hands}
 use Rattle.board_rule.proofs.Lists.{among_counts, put_here, put_else, put_cases, each_as, total_same, total-set}
 use Rattle.board_rule.proofs.Lists.{terms_le}
-use Rattle.board_rule.proofs.Frames.{moment_of}
+use Rattle.board_rule.proofs.Frames.{told_left}
 use Rattle.board_rule.proofs.Rights.{rights_at, done_at, bit_runs, held_by, rights_moved}
 use Rattle.board_rule.proofs.Chains.{count, set_same, set_other}
 use Rattle.board_rule.proofs.RunWords.{blank_running, run_step_keeps}
@@ -184,44 +184,32 @@ module _ {R : Type 0} (meaning_of : R → Meaning) (rules : R) (capacity : ℕ) 
         walked = own.walked;
       })
 
-  begin_at : (slots id : ℕ) (me : Sat R) (r : Claimed) (mask : ℕ) → mask ≡ 2 ^ r.waits → 0 < me.0.parts
-      → MayBegin capacity me.0 r
-      → Allows (Holds meaning_of rules capacity) slots id me (run_word r.place) (λ n. bit_or n mask)
-      (TellsBeginWait meaning_of (step slots (run_word r.place) mask 0 none) me)
-  begin_at slots id me r mask is_mask some_part may s sound homes mine fits =
-      let found : ℕ = get_or s.words (run_word r.place) 0 in
-      let has : HasRight capacity me.0.rights r.place =
-      record { near = may.near; held = among_counts (λ (q : Claimed). q.place) me.0.rights r may.held } in
-      let is = held_by capacity (mem s.words).run (mem s.words).head s.views id me.0 r.place mine has
-      sound.by_kinds.rights in
-      let waits : waits_at r.place me.0.rights ≡ r.waits =
-      waits_known me.0.rights r (omega (arith, is.right_once)) may.held in
-      let full_may : MayWait capacity me.0 r.place =
-      record { has = has; fewer = subst (λ n. n < 8) (sym waits) may.fewer; free = may.free } in (
-        wait_begun me.0 r.place found,
-        keeps,
-        tt,
-        subst (λ k. IsSound (meaning_of rules) rules capacity (set s.words (run_word r.place) (bit_or found k))
-            (set s.views id (wait_begun me.0 r.place found))) (ap (λ n. 2 ^ n) waits ∙ sym is_mask)
-            (begin_keeps s.words s.views id me.0 r.place sound mine some_part full_may),
-        λ p same. let e : r.place ≡ p = omega (arith, same) in
-            subst (λ q. Tells meaning_of (BeginsAt meaning_of me.0 q found) me (wait_begun me.0 r.place found, me.1)) e
-            (record {
-              hands = record {
-                hands_are = refl;
-                moment = moment_of meaning_of rules capacity s.words s.views id me.0 (run_word r.place) sound mine
-                    some_part;
-              };
-              slots = refl;
-            }),
-      )
-
   -- the holder of a right sets the bit of its next wait
   pub begin_allowed : (slots id : ℕ) (me : Sat R) (i : ℕ) (r : Claimed) (mask : ℕ) → i ≡ run_word r.place
       → mask ≡ 2 ^ r.waits → HasPart me.0 → MayBegin capacity me.0 r
       → Allows (Holds meaning_of rules capacity) slots id me i (λ n. bit_or n mask)
       (TellsBeginWait meaning_of (step slots i mask 0 none) me)
   begin_allowed slots id me i r mask is is_mask some_part may =
-      subst (λ j. Allows (Holds meaning_of rules capacity) slots id me j (λ n. bit_or n mask)
-      (TellsBeginWait meaning_of (step slots j mask 0 none) me)) (sym is)
-      (begin_at slots id me r mask is_mask some_part may)
+      rw is (λ s sound homes mine fits.
+      let found : ℕ = get_or s.words (run_word r.place) 0 in
+      let left : Hands R = wait_begun me.0 r.place found in
+      let has : HasRight capacity me.0.rights r.place =
+      record { near = may.near; held = among_counts (λ (q : Claimed). q.place) me.0.rights r may.held } in
+      let held = held_by capacity (mem s.words).run (mem s.words).head s.views id me.0 r.place mine has
+      sound.by_kinds.rights in
+      let waits : waits_at r.place me.0.rights ≡ r.waits =
+      waits_known me.0.rights r (omega (arith, held.right_once)) may.held in
+      let full_may : MayWait capacity me.0 r.place =
+      record { has = has; fewer = subst (λ n. n < 8) (sym waits) may.fewer; free = may.free } in (
+        left,
+        keeps,
+        tt,
+        subst (λ k. IsSound (meaning_of rules) rules capacity (set s.words (run_word r.place) (bit_or found k))
+            (set s.views id left)) (ap (λ n. 2 ^ n) waits ∙ sym is_mask)
+            (begin_keeps s.words s.views id me.0 r.place sound mine some_part full_may),
+        λ p same.
+            let p_is : p ≡ r.place = omega (arith, same) in
+            rw p_is
+            (told_left meaning_of rules capacity s.words s.views id me.0 (run_word r.place) sound mine some_part left
+            me.1),
+      ))
