@@ -5,19 +5,19 @@ use mathlib.Core.Option.{some}
 use lib.ListN.{get_elem?}
 use Rattle.std.specs.Int.{bit_at}
 use Rattle.std.proofs.lemmas.Bool.{cases_eq}
-use Rattle.std.proofs.lemmas.Nat.Bits.{bit_at-lt}
 use Rattle.board_rule.specs.Meaning.{Meaning}
 use Rattle.board_rule.specs.Records.{Claimed, Pending}
 use Rattle.board_rule.specs.Words.{Mem, put}
 use Rattle.board_rule.specs.Waiters.{wait_bit, waiting, cleared}
 use Rattle.board_rule.specs.Seats.{Each, in_hand}
-use Rattle.board_rule.specs.Soundness.{IsRaised, KeepsRights, KeepsWaits, held, ended}
+use Rattle.board_rule.specs.Soundness.{IsRaised, KeepsRights, KeepsWaits, ended}
 use Rattle.board_rule.specs.declared.hands.Hands.{Hands}
-use Rattle.board_rule.proofs.Lists.{put_here, put_else, put_cases, each_as, total_same, total-set, term_le, terms_le}
-use Rattle.board_rule.proofs.Rights.{rights_at, done_at, rights_moved}
+use Rattle.board_rule.proofs.Lists.{put_here, put_cases, each_as, total-set}
+use Rattle.board_rule.proofs.Rights.{rights_at_run}
 use Rattle.board_rule.proofs.Chains.{count, cleared_same, cleared_other, cleared_none}
 use Rattle.board_rule.proofs.Raised.{count_one, count_none}
 use Rattle.board_rule.proofs.Claiming.{held_alone}
+use Rattle.board_rule.proofs.Waits.{IsInHand, in_hand_once}
 
 -- the run words once the waiter's bit was cleared
 abbrev pub run_cleared : (ℕ → ℕ) → ℕ → ℕ → ℕ
@@ -85,27 +85,13 @@ module _ {R : Type 0} (meaning : Meaning) (capacity : ℕ) (m : Mem) (views : Li
     (mine : get_elem? views id ≡ some v)
     (one_less : (p : ℕ) → count p (in_hand v.pending v.walk) ≡ count p (q ∷ []) + count p (in_hand w.pending w.walk))
     (waits : KeepsWaits meaning capacity m.cell m.run m.head m.next views) where
-  -- the waiter's bit was set, as it stood in the seat's hands
-  pub was_set : wait_bit m.run q ≡ 1
-  was_set =
-      let once = waits.once q in
-      let few = bit_at-lt (m.run (q / 8)) (q % 8) in
-      let term = term_le (λ (u : Hands R). count q (in_hand u.pending u.walk)) views id v mine in
-      omega (arith, one_less q, count_one q q refl)
+  -- the waiter stood in the seat's hands, and its bit was set
+  pub was_in_hand : IsInHand capacity m.run waits.lists views id v q
+  was_in_hand = in_hand_once meaning capacity m views id v q waits mine (omega (arith, one_less q, count_one q q refl))
 
-  -- it stands in no other hands, and once in these
-  pub not_others : (other : ℕ) (u : Hands R) → other ≢ id → get_elem? views other ≡ some u
-      → count q (in_hand u.pending u.walk) ≡ 0
-  not_others other u ne there =
-      let once = waits.once q in
-      let both = terms_le (λ (y : Hands R). count q (in_hand y.pending y.walk)) views id other v u ne mine there in
-      omega (arith, was_set, one_less q, count_one q q refl)
-
+  -- it stands there no more
   pub not_again : count q (in_hand w.pending w.walk) ≡ 0
-  not_again =
-      let once = waits.once q in
-      let term = term_le (λ (u : Hands R). count q (in_hand u.pending u.walk)) views id v mine in
-      omega (arith, was_set, one_less q, count_one q q refl)
+  not_again = omega (arith, was_in_hand.once, one_less q, count_one q q refl)
 
   pub waits_cleared : KeepsWaits meaning capacity m.cell (run_cleared m.run q) m.head m.next (set views id w)
   waits_cleared = record {
@@ -121,13 +107,13 @@ module _ {R : Type 0} (meaning : Meaning) (capacity : ℕ) (m : Mem) (views : Li
         ⊎_elim
         (λ (e : p ≡ q).
         let now : wait_bit (run_cleared m.run q) p ≡ 0 = ap (wait_bit (run_cleared m.run q)) e ∙ bit_here m.run q in
-        let was : wait_bit m.run p ≡ 1 = ap (wait_bit m.run) e ∙ was_set in
+        let was : wait_bit m.run p ≡ 1 = ap (wait_bit m.run) e ∙ was_in_hand.is_set in
         omega (arith, count_one p q e))
         (λ (ne : p ≢ q). omega (arith, wait_else m.run q p ne, count_none p q ne))
         (cases_eq p q);
     near = λ p is_set.
         ⊎_elim
-        (λ (e : p ≡ q). waits.near p (omega (arith, ap (wait_bit m.run) e, was_set)))
+        (λ (e : p ≡ q). waits.near p (omega (arith, ap (wait_bit m.run) e, was_in_hand.is_set)))
         (λ (ne : p ≢ q). waits.near p (subst (λ n. 1 ≤ n) (wait_else m.run q p ne) is_set))
         (cases_eq p q);
   }
@@ -137,28 +123,13 @@ module _ {R : Type 0} (meaning : Meaning) (capacity : ℕ) (m : Mem) (views : Li
   rights_cleared rights done old =
       let place : ℕ = q / 8 in
       let few : q % 8 < 8 = omega arith in
-      let near : place < capacity = waits.near q (omega (arith, was_set)) in
+      let near : place < capacity = waits.near q (omega (arith, was_in_hand.is_set)) in
       let was = old place near in
-      let x : ℕ = cleared (m.run place) (q % 8) in
-      let h : held (set views id w) place ≡ held views place =
-      total_same (λ (u : Hands R). rights_at place u.rights) views id v w mine (ap (rights_at place) rights) in
-      let d : ended (set views id w) place ≡ ended views place =
-      total_same (λ (u : Hands R). done_at place u.done) views id v w mine (ap (done_at place) done) in
-      let unsettled : ended (set views id w) place ≡ 1 → ⊥ = λ one.
-      let zero_bit : wait_bit m.run q ≡ 0 = ap (λ n. bit_at n (q % 8)) (was.run_ended (sym d ∙ one))
+      let unsettled : ended views place ≡ 1 → ⊥ = λ one.
+      let zero_bit : wait_bit m.run q ≡ 0 = ap (λ n. bit_at n (q % 8)) (was.run_ended one)
       ∙ held_alone (q % 8) (λ e. omega arith) in
-      absurd (omega (arith, was_set)) in
-      rights_moved views id v w mine capacity m.run m.head (run_cleared m.run q) m.head place
-      (λ p _. ap (rights_at p) rights) (λ p _. ap (done_at p) done) (λ p ne. put_else m.run place x p ne) (λ _ _. refl)
-      (record {
-        once = omega (arith, h, d, was.once);
-        running = ap (λ n. bit_at n 8) (put_here m.run place x)
-            ∙ cleared_other (m.run place) (q % 8) 8 (omega arith) (omega arith) (λ e. omega arith) ∙ was.running
-            ∙ omega (arith, h, d);
-        small = λ i high. ap (λ n. bit_at n i) (put_here m.run place x)
-            ∙ cleared_none (m.run place) (q % 8) i (was.small i high);
-        closed = λ one. absurd (unsettled one);
-        run_ended = λ one. absurd (unsettled one);
-        is_open = λ none_done. was.is_open (sym d ∙ none_done);
-      })
-      old
+      absurd (omega (arith, was_in_hand.is_set)) in
+      rights_at_run views id v w mine capacity m.run m.head place (cleared (m.run place) (q % 8)) near
+      (omega (arith, was.once, unsettled))
+      (cleared_other (m.run place) (q % 8) 8 (omega arith) (omega arith) (λ e. omega arith))
+      (λ i _ none. cleared_none (m.run place) (q % 8) i none) rights done old

@@ -12,14 +12,14 @@ use Rattle.board_rule.specs.Waiters.{rest_of, wait_bit, cleared}
 use Rattle.board_rule.specs.Seats.{Each, in_hand, woken_by, changed, bit_cleared, wait_dropped}
 use Rattle.board_rule.specs.Soundness.{IsRaised, ArePending, IsWalked, WaitedFor, IsSound}
 use Rattle.board_rule.specs.May.{MayDrop, HasPart, MayWalk}
-use Rattle.board_rule.specs.Plays.{Sat, TellsClearBit, TellsDropWait, DropsWaitOf, ClearsBitOf, Tells}
+use Rattle.board_rule.specs.Plays.{Sat, TellsClearBit, TellsDropWait}
 use Rattle.board_rule.specs.declared.hands.Hands.{Hands}
-use Rattle.board_rule.proofs.Frames.{moment_of}
+use Rattle.board_rule.proofs.Frames.{told_left}
 use Rattle.board_rule.proofs.Rights.{bit_runs}
 use Rattle.board_rule.proofs.Chains.{count, chain_rest}
 use Rattle.board_rule.proofs.Waits.{pending_looked, hand_parts}
 use Rattle.board_rule.proofs.RunWords.{blank_running, run_step_keeps}
-use Rattle.board_rule.proofs.Cleared.{run_cleared, raised_cleared, raised_dropped, was_set, not_others, not_again}
+use Rattle.board_rule.proofs.Cleared.{run_cleared, raised_cleared, raised_dropped, not_again, was_in_hand}
 use Rattle.board_rule.proofs.Cleared.{waits_cleared, rights_cleared}
 use Rattle.board_rule.proofs.Looking.{Holds}
 
@@ -71,19 +71,19 @@ module _ {R : Type 0} (meaning_of : R → Meaning) (rules : R) (capacity : ℕ) 
       let w : Hands R = after_clear v q found pending walk in
       let k = sound.by_kinds in
       let own = k.hands id v mine in
-      let is_set = was_set meaning capacity m views id v w q mine one_less k.waits in
-      let near : place < capacity = k.waits.near q (omega (arith, is_set)) in
+      let was = was_in_hand meaning capacity m views id v w q mine one_less k.waits in
+      let near : place < capacity = k.waits.near q (omega (arith, was.is_set)) in
       run_step_keeps meaning_of rules capacity words views id v w place found x sound mine some_part near (record {
-        blank = blank_running meaning capacity m place x (bit_runs found (q % 8) (omega (arith, is_set))) k.blank;
+        blank = blank_running meaning capacity m place x (bit_runs found (q % 8) (omega (arith, was.is_set))) k.blank;
         rights = rights_cleared meaning capacity m views id v w q mine one_less k.waits refl refl k.rights;
         waits = waits_cleared meaning capacity m views id v w q mine one_less k.waits;
         others = λ other u ne there h.
-            let none_of = not_others meaning capacity m views id v w q mine one_less k.waits other u ne there in
+            let none_of = was.in_no_other other u ne there in
             let parts = hand_parts q u.pending u.walk in
-            raised_cleared m.run q u.pending u.rights (omega (arith, is_set)) (omega arith) h.raised;
+            raised_cleared m.run q u.pending u.rights (omega (arith, was.is_set)) (omega arith) h.raised;
         stored = own.stored;
         ends = own.ends;
-        raised = raised (omega (arith, is_set));
+        raised = raised (omega (arith, was.is_set));
         pends = pends v.looks (run_word place, found) refl;
         walked = walked;
       })
@@ -99,95 +99,39 @@ module _ {R : Type 0} (meaning_of : R → Meaning) (rules : R) (capacity : ℕ) 
       let rest : count p (rest_of walk.waiters) ≡ count p others = ap (λ l. count p (rest_of l)) is in
       omega arith
 
-  clear_at : (slots id : ℕ) (me : Sat R) (q : ℕ) (mask : ℕ) → mask ≡ 2 ^ 64 - 1 - 2 ^ (q % 8)
-      → 0 < me.0.parts → MayWalk me.0 q
-      → Allows (Holds meaning_of rules capacity) slots id me (run_word (q / 8)) (λ n. bit_and n mask)
-      (TellsClearBit meaning_of (step slots (run_word (q / 8)) mask 0 none) me)
-  clear_at slots id me q mask is_mask some_part may s sound homes mine fits =
-      let others = may.others in
-      let walks = may.first in
-      let i : ℕ = run_word (q / 8) in
-      let found : ℕ = get_or s.words i 0 in
-      let v : Hands R = me.0 in
-      let m : Mem = mem s.words in
-      let meaning : Meaning = meaning_of rules in
-      let k = sound.by_kinds in
-      let own = k.hands id v mine in
-      let left : Walk = record { child = v.walk.child; waiters = rest_of v.walk.waiters; next = None } in
-      let less = walk_counts v.pending v.walk q others walks in
-      let w : Hands R = bit_cleared v q found in
-      let again = not_again meaning capacity m s.views id v w q mine less k.waits in
-      let parts = hand_parts q v.pending left in (
-        bit_cleared v q found,
-        keeps,
-        tt,
-        subst (λ y. IsSound meaning rules capacity (set s.words i (bit_and found y))
-            (set s.views id (bit_cleared v q found))) (sym is_mask)
-            (clear_keeps s.words s.views id v q v.pending left sound mine some_part less
-            (λ is_set. raised_cleared m.run q v.pending v.rights is_set (omega arith) own.raised)
-            (λ looks look same. subst (λ ls. ArePending meaning capacity m.cell m.next (look ∷ ls) v.rights v.pending)
-            (sym same)
-            (pending_looked meaning capacity m.cell m.next look v.looks v.rights v.pending own.pends))
-            (walked_rest meaning capacity m v.walk own.walked)),
-        λ p rest is.
-            let one : (q ∷ others) ≡ (p ∷ rest) = sym walks ∙ is in
-            let e : q ≡ p = cc in
-            subst (λ (r : ℕ). Tells meaning_of (ClearsBitOf meaning_of v r found) me (bit_cleared v q found, me.1)) e
-            (record {
-              hands = record {
-                hands_are = refl;
-                moment = moment_of meaning_of rules capacity s.words s.views id v i sound mine some_part;
-              };
-              slots = refl;
-            }),
-      )
-
   -- the seat that walks clears the bit of the first waiter
   pub clear_allowed : (slots id : ℕ) (me : Sat R) (i q : ℕ) (mask : ℕ) → i ≡ run_word (q / 8)
       → mask ≡ 2 ^ 64 - 1 - 2 ^ (q % 8) → HasPart me.0 → MayWalk me.0 q
       → Allows (Holds meaning_of rules capacity) slots id me i (λ n. bit_and n mask)
       (TellsClearBit meaning_of (step slots i mask 0 none) me)
   clear_allowed slots id me i q mask is is_mask some_part may =
-      subst (λ j. Allows (Holds meaning_of rules capacity) slots id me j (λ n. bit_and n mask)
-      (TellsClearBit meaning_of (step slots j mask 0 none) me)) (sym is)
-      (clear_at slots id me q mask is_mask some_part may)
-
-  drop_at : (slots id : ℕ) (me : Sat R) (x : Pending) (mask : ℕ) → mask ≡ 2 ^ 64 - 1 - 2 ^ (x.waiter % 8)
-      → 0 < me.0.parts → MayDrop me.0 x
-      → Allows (Holds meaning_of rules capacity) slots id me (run_word (x.waiter / 8)) (λ n. bit_and n mask)
-      (TellsDropWait meaning_of (step slots (run_word (x.waiter / 8)) mask 0 none) me)
-  drop_at slots id me x mask is_mask some_part may s sound homes mine fits =
-      let q : ℕ = x.waiter in
-      let i : ℕ = run_word (q / 8) in
-      let found : ℕ = get_or s.words i 0 in
+      rw is (λ s sound homes mine fits.
+      let word : ℕ = run_word (q / 8) in
+      let found : ℕ = get_or s.words word 0 in
       let v : Hands R = me.0 in
       let m : Mem = mem s.words in
       let meaning : Meaning = meaning_of rules in
-      let own = sound.by_kinds.hands id v mine in (
-        wait_dropped v x found,
+      let k = sound.by_kinds in
+      let own = k.hands id v mine in
+      let left : Walk = record { child = v.walk.child; waiters = rest_of v.walk.waiters; next = None } in
+      let less = walk_counts v.pending v.walk q may.others may.first in
+      let w : Hands R = bit_cleared v q found in
+      let again = not_again meaning capacity m s.views id v w q mine less k.waits in
+      let parts = hand_parts q v.pending left in (
+        w,
         keeps,
         tt,
-        subst (λ y. IsSound meaning rules capacity (set s.words i (bit_and found y))
-            (set s.views id (wait_dropped v x found))) (sym is_mask)
-            (clear_keeps s.words s.views id v q None v.walk sound mine some_part
-            (λ p. ap (λ o. count p (in_hand o v.walk)) may.is ∙ omega arith)
-            (λ is_set. raised_dropped m.run x v.rights
-            (subst (λ o. Each (IsRaised m.run o) v.rights) may.is own.raised))
-            (λ looks look same. tt)
-            own.walked),
-        λ y is.
-            let one : Some x ≡ Some y = sym may.is ∙ is in
-            let e : x ≡ y = cc in
-            subst (λ (z : Pending). Tells meaning_of (DropsWaitOf meaning_of v z found) me
-            (wait_dropped v x found, me.1)) e
-            (record {
-              hands = record {
-                hands_are = refl;
-                moment = moment_of meaning_of rules capacity s.words s.views id v i sound mine some_part;
-              };
-              slots = refl;
-            }),
-      )
+        subst (λ y. IsSound meaning rules capacity (set s.words word (bit_and found y)) (set s.views id w)) (sym is_mask)
+            (clear_keeps s.words s.views id v q v.pending left sound mine some_part less
+            (λ is_set. raised_cleared m.run q v.pending v.rights is_set (omega arith) own.raised)
+            (λ looks look same. rw same
+            (pending_looked meaning capacity m.cell m.next look v.looks v.rights v.pending own.pends))
+            (walked_rest meaning capacity m v.walk own.walked)),
+        λ p rest first.
+            let walk : (p ∷ rest) ≡ (q ∷ may.others) = sym first ∙ may.first in
+            let p_is : p ≡ q = cc in
+            rw p_is (told_left meaning_of rules capacity s.words s.views id v word sound mine some_part w me.1),
+      ))
 
   -- the seat that puts a wait in clears its bit, as it saw the child finished
   pub drop_allowed : (slots id : ℕ) (me : Sat R) (i : ℕ) (x : Pending) (mask : ℕ) → i ≡ run_word (x.waiter / 8)
@@ -195,6 +139,26 @@ module _ {R : Type 0} (meaning_of : R → Meaning) (rules : R) (capacity : ℕ) 
       → Allows (Holds meaning_of rules capacity) slots id me i (λ n. bit_and n mask)
       (TellsDropWait meaning_of (step slots i mask 0 none) me)
   drop_allowed slots id me i x mask is is_mask some_part may =
-      subst (λ j. Allows (Holds meaning_of rules capacity) slots id me j (λ n. bit_and n mask)
-      (TellsDropWait meaning_of (step slots j mask 0 none) me)) (sym is)
-      (drop_at slots id me x mask is_mask some_part may)
+      rw is (λ s sound homes mine fits.
+      let word : ℕ = run_word (x.waiter / 8) in
+      let found : ℕ = get_or s.words word 0 in
+      let v : Hands R = me.0 in
+      let m : Mem = mem s.words in
+      let own = sound.by_kinds.hands id v mine in
+      let w : Hands R = wait_dropped v x found in (
+        w,
+        keeps,
+        tt,
+        subst (λ y. IsSound (meaning_of rules) rules capacity (set s.words word (bit_and found y)) (set s.views id w))
+            (sym is_mask)
+            (clear_keeps s.words s.views id v x.waiter None v.walk sound mine some_part
+            (λ p. ap (λ o. count p (in_hand o v.walk)) may.is ∙ omega arith)
+            (λ is_set. raised_dropped m.run x v.rights
+            (subst (λ o. Each (IsRaised m.run o) v.rights) may.is own.raised))
+            (λ looks look same. tt)
+            own.walked),
+        λ y is_wait.
+            let wait : Some y ≡ Some x = sym is_wait ∙ may.is in
+            let y_is : y ≡ x = cc in
+            rw y_is (told_left meaning_of rules capacity s.words s.views id v word sound mine some_part w me.1),
+      ))

@@ -8,12 +8,12 @@ use Rattle.board_rule.specs.Records.{Claimed, Ended}
 use Rattle.board_rule.specs.Seats.{Each, times, without}
 use Rattle.board_rule.specs.Soundness.{AreRights, KeepsBlank, KeepsRights, held, ended}
 use Rattle.board_rule.specs.Meaning.{Meaning}
-use Rattle.board_rule.specs.Words.{Mem}
+use Rattle.board_rule.specs.Words.{Mem, put}
 use Rattle.std.specs.Int.{bit_at}
 use Rattle.std.proofs.lemmas.Nat.Bits.{bit_at-zero}
 use Rattle.board_rule.specs.May.{HasRight}
 use Rattle.board_rule.specs.declared.hands.Hands.{Hands}
-use Rattle.board_rule.proofs.Lists.{cond_cases, counts_one, counts_none, total-set, term_le}
+use Rattle.board_rule.proofs.Lists.{cond_cases, counts_one, counts_none, total-set, term_le, put_here, put_else}
 
 -- how often a place stands in the rights
 abbrev pub rights_at : ℕ → List Claimed → ℕ
@@ -83,6 +83,28 @@ module _ {R : Type 0} (views : List (Hands R)) (id : ℕ) (v w : Hands R) (mine 
         is_open = λ zero_done. subst (λ x. x < 2 ^ 63) (sym (heads p ne)) (was.is_open (sym d ∙ zero_done));
       })
       (cases_eq p place)
+
+  -- also where a run word alone has changed, with the held bit as it was and none above it, of a goal that is not finished
+  pub rights_at_run : (capacity : ℕ) (run head : ℕ → ℕ) (place x : ℕ) → place < capacity → ended views place ≡ 0
+      → bit_at x 8 ≡ bit_at (run place) 8 → ((i : ℕ) → 9 ≤ i → bit_at (run place) i ≡ 0 → bit_at x i ≡ 0)
+      → w.rights ≡ v.rights → w.done ≡ v.done
+      → KeepsRights capacity run head views → KeepsRights capacity (put run place x) head (set views id w)
+  rights_at_run capacity run head place x near unfinished same none_above rights done old =
+      let was = old place near in
+      let h : held (set views id w) place ≡ held views place =
+      omega (arith, held-set place, ap (rights_at place) rights) in
+      let d : ended (set views id w) place ≡ ended views place = omega (arith, ended-set place, ap (done_at place) done) in
+      rights_moved capacity run head (put run place x) head place (λ p _. ap (rights_at p) rights)
+      (λ p _. ap (done_at p) done) (λ p ne. put_else run place x p ne) (λ _ _. refl)
+      (record {
+        once = omega (arith, h, d, was.once);
+        running = ap (λ n. bit_at n 8) (put_here run place x) ∙ same ∙ was.running ∙ omega (arith, h, d);
+        small = λ i high. ap (λ n. bit_at n i) (put_here run place x) ∙ none_above i high (was.small i high);
+        closed = λ one. absurd (omega (arith, d));
+        run_ended = λ one. absurd (omega (arith, d));
+        is_open = λ _. was.is_open unfinished;
+      })
+      old
 
 -- the goal is held by this seat alone, once, and it is not finished
 pub record IsHeld {R : Type 0} (run head : ℕ → ℕ) (views : List (Hands R)) (v : Hands R) (place : ℕ) : Type 0 where

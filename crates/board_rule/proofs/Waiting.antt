@@ -11,14 +11,14 @@ use Rattle.board_rule.specs.Records.{Claimed}
 use Rattle.board_rule.specs.Words.{Mem, mem, put, run_word}
 use Rattle.board_rule.specs.Waiters.{wait_bit}
 use Rattle.board_rule.specs.Seats.{Each, waits_at, in_hand, wait_begun}
-use Rattle.board_rule.specs.Soundness.{IsRaised, KeepsRights, KeepsWaits, IsSound, held, ended}
+use Rattle.board_rule.specs.Soundness.{IsRaised, KeepsRights, KeepsWaits, IsSound, held}
 use Rattle.board_rule.specs.May.{HasPart, HasRight, MayBegin}
 use Rattle.board_rule.specs.Plays.{Sat, TellsBeginWait}
 use Rattle.board_rule.specs.declared.hands.Hands.{Hands}
-use Rattle.board_rule.proofs.Lists.{among_counts, put_here, put_else, put_cases, each_as, total_same, total-set}
+use Rattle.board_rule.proofs.Lists.{among_counts, put_here, put_else, put_cases, each_as, total-set}
 use Rattle.board_rule.proofs.Lists.{terms_le}
 use Rattle.board_rule.proofs.Frames.{told_left}
-use Rattle.board_rule.proofs.Rights.{rights_at, done_at, bit_runs, held_by, rights_moved}
+use Rattle.board_rule.proofs.Rights.{rights_at, bit_runs, held_by, rights_at_run}
 use Rattle.board_rule.proofs.Chains.{count, set_same, set_other}
 use Rattle.board_rule.proofs.RunWords.{blank_running, run_step_keeps}
 use Rattle.board_rule.proofs.Raised.{count_one, count_none, raised_at, raised_else, waits_known}
@@ -38,29 +38,11 @@ rights_begun : {R : Type 0} (capacity : ℕ) (m : Mem) (views : List (Hands R)) 
     (set views id (wait_begun v place (m.run place)))
 rights_begun capacity m views id v place mine may old =
     let b : ℕ = waits_at place v.rights in
-    let x : ℕ = bit_or (m.run place) (2 ^ b) in
-    let w = wait_begun v place (m.run place) in
     let few = may.fewer in
-    let near = may.has.near in
-    let was = old place near in
     let is = held_by capacity m.run m.head views id v place mine may.has old in
-    let h : held (set views id w) place ≡ held views place =
-    total_same (λ (u : Hands _). rights_at place u.rights) views id v w mine refl in
-    let d : ended (set views id w) place ≡ ended views place =
-    total_same (λ (u : Hands _). done_at place u.done) views id v w mine refl in
-    rights_moved views id v w mine capacity m.run m.head (put m.run place x) m.head place
-    (λ _ _. refl) (λ _ _. refl) (λ p ne. put_else m.run place x p ne) (λ _ _. refl)
-    (record {
-      once = omega (arith, h, d, was.once);
-      running = ap (λ n. bit_at n 8) (put_here m.run place x) ∙ set_other (m.run place) b 8 (λ e. omega arith)
-          ∙ was.running ∙ omega (arith, h, d);
-      small = λ i high. ap (λ n. bit_at n i) (put_here m.run place x) ∙ set_other (m.run place) b i (λ e. omega arith)
-          ∙ was.small i high;
-      closed = λ one. absurd (omega (arith, is.not_ended));
-      run_ended = λ one. absurd (omega (arith, is.not_ended));
-      is_open = λ _. is.is_open;
-    })
-    old
+    rights_at_run views id v (wait_begun v place (m.run place)) mine capacity m.run m.head place
+    (bit_or (m.run place) (2 ^ b)) may.has.near is.not_ended (set_other (m.run place) b 8 (λ e. omega arith))
+    (λ i high none. set_other (m.run place) b i (λ e. omega arith) ∙ none) refl refl old
 
 -- the waiter stands in the seat's hands, and its bit is set
 waits_begun : {R : Type 0} (meaning : Meaning) (capacity : ℕ) (m : Mem) (views : List (Hands R)) (id : ℕ)

@@ -11,10 +11,11 @@ use Rattle.board_rule.specs.Waiters.{wait_bit, waiting, head_of, below}
 use Rattle.board_rule.specs.Seats.{Among, Each, total, in_hand}
 use Rattle.board_rule.specs.Soundness.{KeepsBlank, IsRaised, IsPending, ArePending, KeepsWaits}
 use Rattle.board_rule.specs.declared.hands.Hands.{Hands}
-use Rattle.board_rule.proofs.Lists.{put_cases, each_as, among_counts, total_same, term_le, counts_none}
+use Rattle.board_rule.proofs.Lists.{put_cases, each_as, among_counts, total_same, term_le, counts_none, terms_le}
 use Rattle.board_rule.proofs.Chains.{count, below_term}
 use Rattle.board_rule.proofs.Rights.{rights_at, held_stands, bit_runs}
 use Rattle.std.proofs.lemmas.Bool.{cases_lt}
+use Rattle.std.proofs.lemmas.Nat.Bits.{bit_at-lt}
 
 -- run words whose wait bits are as they were
 abbrev pub SameBits : (run new_run : ℕ → ℕ) → Type 0
@@ -69,6 +70,31 @@ module _ {R : Type 0} (meaning : Meaning) (capacity : ℕ) (cell head next : ℕ
   handed_waits run views id v mine old q at =
       let term = term_le (λ (u : Hands R). count q (in_hand u.pending u.walk)) views id v mine in let once =
       old.once q in omega arith
+
+-- a waiter in the hands of a seat stands there once, and nowhere else, and its bit is set
+pub record IsInHand {R : Type 0} (capacity : ℕ) (run : ℕ → ℕ) (lists : ℕ → List ℕ) (views : List (Hands R)) (id : ℕ)
+    (v : Hands R) (q : ℕ) : Type 0 where
+  pub is_set : wait_bit run q ≡ 1
+  pub once : count q (in_hand v.pending v.walk) ≡ 1
+  pub unlisted : (c : ℕ) → c < capacity → count q (lists c) ≡ 0
+  pub in_no_other : (other : ℕ) (u : Hands R) → other ≢ id → get_elem? views other ≡ some u
+      → count q (in_hand u.pending u.walk) ≡ 0
+
+pub in_hand_once : {R : Type 0} (meaning : Meaning) (capacity : ℕ) (m : Mem) (views : List (Hands R)) (id : ℕ)
+    (v : Hands R) (q : ℕ) (waits : KeepsWaits meaning capacity m.cell m.run m.head m.next views)
+    → get_elem? views id ≡ some v → 1 ≤ count q (in_hand v.pending v.walk)
+    → IsInHand capacity m.run waits.lists views id v q
+in_hand_once {R = R} meaning capacity m views id v q waits mine at =
+    let hand : Hands R → ℕ = λ u. count q (in_hand u.pending u.walk) in
+    let sums = waits.once q in
+    let few = bit_at-lt (m.run (q / 8)) (q % 8) in
+    let own = term_le hand views id v mine in
+    record {
+      is_set = omega arith;
+      once = omega arith;
+      unlisted = λ c near. omega (arith, below_term (λ p. count q (waits.lists p)) capacity c near);
+      in_no_other = λ other u ne there. omega (arith, terms_le hand views id other v u ne mine there);
+    }
 
 -- a right is raised as before where the wait bits are
 pub raised_as : (run new_run : ℕ → ℕ) (pending : Option Pending) (rights : List Claimed) → SameBits run new_run
