@@ -1,15 +1,15 @@
 -- What a head that is closed leaves of each topic.
 use Rattle.std.proofs.Common.{ℕ, ◌^◌, ◌≤◌, List, ◌∷◌, sym, subst, ◌∙◌, inl, ⊎_elim, arith, ◌≡◌, ◌+◌}
-use Rattle.std.proofs.Common.{◌<◌, set, cond, eqb, eq-eqb, ne_eqb, refl, ap, None}
+use Rattle.std.proofs.Common.{◌<◌, set, cond, eqb, refl, ap, None}
 use Rattle.std.proofs.Common.{[], ◌/◌}
 use Rattle.board_rule.specs.Meaning.{Meaning}
-use Rattle.board_rule.specs.Records.{Ended, Walk, Claimed}
+use Rattle.board_rule.specs.Records.{Claimed}
 use Rattle.board_rule.specs.Words.{Mem, put, head_word}
 use Rattle.board_rule.specs.Waiters.{IsLater, head_of, IsChain}
-use Rattle.board_rule.specs.Soundness.{HoldsGoal, KeepsBlank, IsPromised, KeepsPromises, Stays, IsRecorded, WaitedFor}
-use Rattle.board_rule.specs.Soundness.{IsWalked, KeepsRights, IsRaised, KeepsWaits, EndsClaims}
+use Rattle.board_rule.specs.Soundness.{IsPromised, KeepsPromises, Stays}
+use Rattle.board_rule.specs.Soundness.{KeepsRights, IsRaised, KeepsWaits, EndsClaims}
 use Rattle.board_rule.specs.Soundness.{held, ended}
-use Rattle.board_rule.proofs.Lists.{put_else, put_cases, each_as, put_here, counts_one, counts_none}
+use Rattle.board_rule.proofs.Lists.{put_else, put_cases, put_here, counts_one, counts_none}
 use Rattle.board_rule.proofs.Lists.{total-set}
 use mathlib.Core.Option.{some}
 use lib.ListN.{get_elem?}
@@ -23,6 +23,9 @@ use Rattle.board_rule.proofs.Rights.{held_by, held-set, ended-set, rights_moved,
 use Rattle.board_rule.proofs.Rights.{without_here, without_else}
 use Rattle.board_rule.proofs.Chains.{count, put_list, put_list_cases, below_put_list}
 use Rattle.board_rule.proofs.Claiming.{held_alone}
+use Rattle.board_rule.proofs.HeadTopics.{promised_still}
+use Rattle.board_rule.proofs.Truths.{stays_looked}
+use Rattle.board_rule.specs.Looks.{Looked}
 
 module _ (meaning : Meaning) (capacity : ℕ) (m : Mem) (place : ℕ) where
   -- a closed head stays closed
@@ -31,44 +34,21 @@ module _ (meaning : Meaning) (capacity : ℕ) (m : Mem) (place : ℕ) where
 
   pub stays_close : (looks : List (ℕ × ℕ)) → Stays m.cell m.head m.full looks
       → Stays m.cell (put m.head place (2 ^ 63)) m.full looks
-  stays_close looks old = record {
-    cells = old.cells;
-    heads = λ p found at. put_cases m.head place (2 ^ 63) p (IsLater found) (λ _. inl (omega arith))
-        (λ _. old.heads p found at);
-    set_full = old.set_full;
-  }
+  stays_close looks old =
+      let heads : (p found : ℕ) → Looked looks (head_word p) found → IsLater found (put m.head place (2 ^ 63) p) =
+      λ p found at. put_cases m.head place (2 ^ 63) p (IsLater found) (λ _. inl (omega arith))
+      (λ _. old.heads p found at) in
+      assumption (old, heads)
 
   -- the seat's own look found the head open
   pub own_stays_close : (seen : ℕ) (looks : List (ℕ × ℕ)) → Stays m.cell m.head m.full looks
       → Stays m.cell (put m.head place (2 ^ 63)) m.full ((head_word place, seen) ∷ looks)
-  own_stays_close seen looks old = let kept = stays_close looks old in record {
-    cells = λ p found at some_found. ⊎_elim (λ t. absurd (omega (arith, t.0)))
-        (λ old_look. kept.cells p found old_look some_found) at;
-    heads = λ p found at. ⊎_elim
-        (λ t. put_cases m.head place (2 ^ 63) p (IsLater found) (λ _. inl (omega arith))
-        (λ ne. absurd (ne (omega (arith, t.0)))))
-        (λ old_look. kept.heads p found old_look) at;
-    set_full = λ found at some_found. ⊎_elim (λ t. absurd (omega (arith, t.0)))
-        (λ old_look. kept.set_full found old_look some_found) at;
-  }
-
-  pub recorded_close : (e : Ended) → IsRecorded capacity m.head m.cost m.node m.who e
-      → IsRecorded capacity (put m.head place (2 ^ 63)) m.cost m.node m.who e
-  recorded_close e old = record {
-    near = old.near;
-    closed = closed_stays e.place old.closed;
-    cost_is = old.cost_is;
-    node_is = old.node_is;
-    who_is = old.who_is;
-    few = old.few;
-  }
-
-  promised_close : (goal : ℕ) → IsPromised meaning capacity m.cell m.head goal
-      → IsPromised meaning capacity m.cell (put m.head place (2 ^ 63)) goal
-  promised_close goal old = record {
-    children = λ child is. let t = old.children child is in (t.0, t.1, t.2, t.3, closed_stays t.0 t.4);
-    asked = old.asked;
-  }
+  own_stays_close seen looks old =
+      stays_looked m.cell (put m.head place (2 ^ 63)) m.full looks (head_word place) seen
+      (λ p e. absurd (omega (arith, e)))
+      (λ p e. put_cases m.head place (2 ^ 63) p (IsLater seen) (λ _. inl (omega arith))
+      (λ ne. absurd (ne (omega (arith, e)))))
+      (λ e. absurd (omega (arith, e))) (stays_close looks old)
 
   -- the closed goal keeps its promise and has its answer, as those before
   pub promises_close : IsPromised meaning capacity m.cell m.head (m.cell place)
@@ -79,38 +59,13 @@ module _ (meaning : Meaning) (capacity : ℕ) (m : Mem) (place : ℕ) where
     promise = λ p near. put_cases m.head place (2 ^ 63) p (λ x. 2 ^ 63 ≤ x
         → IsPromised meaning capacity m.cell (put m.head place (2 ^ 63)) (m.cell p))
         (λ here _. subst (λ q. IsPromised meaning capacity m.cell (put m.head place (2 ^ 63)) (m.cell q)) (sym here)
-        (promised_close (m.cell place) promise))
-        (λ _ closed. promised_close (m.cell p) (old.promise p near closed));
+        (promised_still meaning capacity m (put m.head place (2 ^ 63)) closed_stays (m.cell place) promise))
+        (λ _ closed. promised_still meaning capacity m (put m.head place (2 ^ 63)) closed_stays (m.cell p)
+        (old.promise p near closed));
     answer = λ p near. put_cases m.head place (2 ^ 63) p (λ x. 2 ^ 63 ≤ x
         → meaning.answer (m.cell p) (m.cost p) (m.node p))
         (λ here _. subst (λ q. meaning.answer (m.cell q) (m.cost q) (m.node q)) (sym here) answer)
         (λ _ closed. old.answer p near closed);
-  }
-
-  -- only places of goals have a closed head
-  pub blank_close : HoldsGoal meaning capacity m.cell place → KeepsBlank meaning capacity m
-      → KeepsBlank meaning capacity (record m { head = put m.head place (2 ^ 63) })
-  blank_close is_goal old p near no_goal = let b = old p near no_goal in record {
-    run = b.run;
-    head = put_else m.head place (2 ^ 63) p (λ here. no_goal
-        (subst (HoldsGoal meaning capacity m.cell) (sym here) is_goal))
-        ∙ b.head;
-    cost = b.cost;
-    node = b.node;
-    who = b.who;
-    next = b.next;
-  }
-
-  -- a list that is walked is one of a closed head still
-  pub walked_close : (walk : Walk) → IsWalked meaning capacity m.cell m.head m.next walk
-      → IsWalked meaning capacity m.cell (put m.head place (2 ^ 63)) m.next walk
-  walked_close walk old = record {
-    chained = old.chained;
-    read = old.read;
-    waited = each_as (WaitedFor meaning capacity m.cell m.head walk.child)
-        (WaitedFor meaning capacity m.cell (put m.head place (2 ^ 63)) walk.child)
-        (λ q was. record { near = was.near; closed = closed_stays walk.child was.closed; is_child = was.is_child })
-        walk.waiters old.waited;
   }
 
 -- a held goal without waits has the held bit alone in its run word
@@ -187,12 +142,9 @@ pub ends_close : {R : Type 0} (v : Hands R) (place worker cost node : ℕ) (wait
     → 1 ≤ rights_at place v.rights
     → EndsClaims v → EndsClaims (finished v place worker cost node waiters)
 ends_close v place worker cost node waiters has old p = ⊎_elim
-    (λ here. let one : cond {A = ℕ} (eqb place p) 1 0 ≡ 1 = ap (λ b. cond b 1 0) (eq-eqb place p (sym here)) in
-    let less : rights_at p (without place v.rights) + 1 ≡ rights_at p v.rights =
+    (λ here. let less : rights_at p (without place v.rights) + 1 ≡ rights_at p v.rights =
     subst (λ q. rights_at q (without place v.rights) + 1 ≡ rights_at q v.rights) (sym here)
     (without_here place v.rights has) in
-    omega (arith, old p))
-    (λ else. let zero_here : cond {A = ℕ} (eqb place p) 1 0 ≡ 0 =
-    ap (λ b. cond b 1 0) (ne_eqb place p (λ e. else (sym e))) in
-    omega (arith, old p, without_else place p v.rights else))
+    omega (arith, old p, counts_one place p (sym here)))
+    (λ else. omega (arith, old p, without_else place p v.rights else, counts_none place p (λ e. else (sym e))))
     (cases_eq p place)

@@ -1,5 +1,5 @@
 -- A swap that closes a goal's head keeps soundness.
-use Rattle.std.proofs.Common.{length, ◌*◌, ◌≡◌, ℕ, ◌+◌, ◌^◌, ◌<◌, ◌≤◌, List, get_or, set, length-set}
+use Rattle.std.proofs.Common.{length, ◌*◌, ◌≡◌, ℕ, ◌+◌, ◌^◌, ◌<◌, ◌≤◌, List, set}
 use Rattle.std.proofs.Common.{Some, IsTrue, sym, refl, ap, subst, ◌∙◌, inr, arith, ◌/◌}
 use mathlib.Core.Option.{some, none}
 use lib.ListN.{get_elem?}
@@ -9,23 +9,22 @@ use Rattle.board_rule.specs.Records.{Claimed}
 use Rattle.board_rule.specs.Words.{Mem, mem, put, head_word}
 use Rattle.board_rule.specs.Waiters.{head_of}
 use Rattle.board_rule.specs.Seats.{Each, in_hand, answered_right, finished}
-use Rattle.board_rule.specs.Soundness.{HoldsGoal, IsPromised, IsRecorded, IsStored, IsRaised, ArePending}
-use Rattle.board_rule.specs.Soundness.{WaitedFor, AreHands, IsSoundBy, IsSound}
+use Rattle.board_rule.specs.Soundness.{HoldsGoal, IsPromised, IsStored, IsRaised, ArePending}
+use Rattle.board_rule.specs.Soundness.{WaitedFor, IsSound}
 use Rattle.board_rule.specs.May.{HasRight, MayClose, HasPart}
-use Rattle.board_rule.specs.Plays.{Sat, TellsClose, ClosesHead, Tells}
+use Rattle.board_rule.specs.Plays.{Sat, TellsClose}
 use Rattle.board_rule.specs.declared.hands.Hands.{Hands}
-use Rattle.board_rule.proofs.Lists.{put_cases, each_as, each_at, among_counts, only_one}
-use Rattle.board_rule.proofs.Lists.{total_same}
+use Rattle.board_rule.proofs.Lists.{each_as, each_at, among_counts, only_one, put_here}
 use Rattle.board_rule.proofs.Stores.{put_head}
-use Rattle.board_rule.proofs.Frames.{awake_has, of_others_set, alone_set, moment_of}
+use Rattle.board_rule.proofs.Frames.{awake_has, store_keeps, told_left}
 use Rattle.board_rule.proofs.Truths.{shown_promise}
 use Rattle.board_rule.proofs.Rights.{held_by, rights_at}
 use Rattle.board_rule.proofs.Rights.{each_without}
 use Rattle.board_rule.proofs.Lengths.{list_length, waiters_within}
 use Rattle.board_rule.proofs.Looking.{Holds}
-use Rattle.board_rule.proofs.CloseTopics.{stays_close, own_stays_close, recorded_close, promises_close, blank_close}
+use Rattle.board_rule.proofs.CloseTopics.{stays_close, own_stays_close, promises_close, closed_stays}
 use Rattle.board_rule.proofs.CloseTopics.{runs_alone, rights_close, waits_close, ends_close}
-use Rattle.board_rule.proofs.CloseTopics.{walked_close}
+use Rattle.board_rule.proofs.HeadTopics.{blank_head, recorded_still, walked_still}
 
 module _ {R : Type 0} (meaning_of : R → Meaning) (rules : R) (capacity : ℕ) where
   -- a board is sound once a seat has closed the head of a goal that it holds
@@ -63,137 +62,106 @@ module _ {R : Type 0} (meaning_of : R → Meaning) (rules : R) (capacity : ℕ) 
         (λ none_there. may.some_goal (sym cell ∙ none_there)),
         subst (λ g. IsTrue (meaning.goal g)) (sym cell) may.is_goal,
       ) in
-      record {
-        count = length-set words (head_word place) (2 ^ 63) ∙ count;
-        by_kinds = subst (λ b. IsSoundBy meaning rules capacity b (set views id w))
-            (sym (put_head words place (2 ^ 63) (omega arith))) (record {
-              cells = k.cells;
-              blank = blank_close meaning capacity m place is_goal k.blank;
-              rights = rights_close capacity m.run m.head views id v place worker cost node waiters mine has_right
-                  settled k.rights;
-              waits = waits_close meaning capacity m views id v w place k.waits mine near
-                  (ap (λ o. in_hand o v.walk) free ∙ walked)
-                  (ap (λ o. in_hand o w.walk) free);
-              promises = promises_close meaning capacity m place
-                  (subst (IsPromised meaning capacity m.cell m.head) (sym cell)
-                  (shown_promise meaning capacity m k.promises v.looks own.stays may.goal may.promise))
-                  (subst (λ c. meaning.answer (m.cell place) c (m.node place)) (sym (stored.cost_is cost refl))
-                  (subst (λ x. meaning.answer (m.cell place) cost x) (sym (stored.node_is node refl))
-                  (subst (λ g. meaning.answer g cost node) (sym cell) may.answer)))
-                  k.promises;
-              full = k.full;
-              hands = of_others_set (AreHands meaning rules capacity m) (AreHands meaning rules capacity n) views id w
-                  (λ other u ne there h. record {
-                    stays = stays_close meaning capacity m place u.looks h.stays;
-                    absence = h.absence;
-                    recorded = each_as (IsRecorded capacity m.head m.cost m.node m.who)
-                        (IsRecorded capacity n.head m.cost m.node m.who) (recorded_close meaning capacity m place)
-                        u.done
-                        h.recorded;
-                    stored = h.stored;
-                    ends = h.ends;
-                    raised = h.raised;
-                    pends = h.pends;
-                    walked = walked_close meaning capacity m place u.walk h.walked;
-                    awake = h.awake;
-                  })
-                  k.hands
-                  (record {
-                    stays = own_stays_close meaning capacity m place (head_of waiters) v.looks own.stays;
-                    absence = ((λ _ word p p_near is. absurd (omega (arith, is))), own.absence);
-                    recorded = (
-                      record {
-                        near = near;
-                        closed = put_cases m.head place (2 ^ 63) place (λ x. 2 ^ 63 ≤ x)
-                            (λ _. omega arith) (λ ne. absurd (ne refl));
-                        cost_is = stored.cost_is cost refl;
-                        node_is = stored.node_is node refl;
-                        who_is = stored.who_is (worker + 1) refl;
-                        few = may.few;
-                      },
-                      each_as (IsRecorded capacity m.head m.cost m.node m.who)
-                          (IsRecorded capacity n.head m.cost m.node m.who)
-                          (recorded_close meaning capacity m place) v.done own.recorded,
-                    );
-                    stored = each_without (IsStored m.cost m.node m.who) place v.rights own.stored;
-                    ends = ends_close v place worker cost node waiters has own.ends;
-                    raised = each_without (IsRaised m.run v.pending) place v.rights own.raised;
-                    pends = subst (ArePending meaning capacity m.cell m.next w.looks w.rights) (sym free) tt;
-                    walked = record {
-                      chained = k.waits.chains place near;
-                      read = λ found none_read. let no : ⊥ = cc in absurd no;
-                      waited = each_as (λ q. meaning.child (m.cell (q / 8)) (m.cell place))
-                          (WaitedFor meaning capacity m.cell n.head place)
-                          (λ q is_child. record {
-                            near = near;
-                            closed =
-                                put_cases m.head place (2 ^ 63) place (λ x. 2 ^ 63 ≤ x) (λ _. omega arith)
-                                (λ ne. absurd (ne refl));
-                            is_child = is_child;
-                          })
-                          waiters (k.waits.joined place near);
-                    };
-                    awake = inr (awake_has rules capacity v some_part own.awake);
-                  });
-              parts = total_same (λ (h : Hands R). h.parts) views id v w mine refl ∙ k.parts;
-            });
-        alone = alone_set words views id (head_word place) (2 ^ 63) v w mine refl sound.alone;
-      }
-
-  close_at : (slots id : ℕ) (me : Sat R) (place worker cost node : ℕ) → 0 < me.0.parts
-      → MayClose (meaning_of rules) capacity me.0 place worker cost node
-      → Allows (Holds meaning_of rules capacity) slots id me (head_word place) (λ _. 2 ^ 63)
-      (TellsClose meaning_of (step slots (head_word place) (2 ^ 63) 0 none) me)
-  close_at slots id me place worker cost node some_part may s sound homes mine fits =
-      let moment = moment_of meaning_of rules capacity s.words s.views id me.0 (head_word place) sound mine some_part in
-      let k = sound.by_kinds in
-      let waiters : List ℕ = k.waits.lists place in
-      let has : HasRight capacity me.0.rights place =
-      record {
-        near = may.near;
-        held = among_counts (λ (r : Claimed). r.place) me.0.rights (answered_right place worker cost node) may.stored;
-      } in
-      let is = held_by capacity (mem s.words).run (mem s.words).head s.views id me.0 place mine has k.rights in
-      let its_capacity : me.0.capacity ≡ capacity = (awake_has rules capacity me.0 some_part
-      (k.hands id me.0 mine).awake).2 in
-      let few : rights_at place me.0.rights ≤ 1 = omega (arith, is.right_once) in (
-        finished me.0 place worker cost node waiters,
-        keeps,
-        tt,
-        close_keeps s.words s.views id me.0 place worker cost node sound mine some_part may,
-        λ p a c x same stored.
-            let e : place ≡ p = omega (arith, same) in
-            let r : answered_right place worker cost node ≡ answered_right p a c x =
-            only_one (λ (r : Claimed). r.place) me.0.rights (answered_right place worker cost node)
-            (answered_right p a c x) few (sym e) may.stored stored in
-            let ec : cost ≡ c = let t : Some cost ≡ Some c = ap (λ (q : Claimed). q.cost) r in cc in
-            let ex : node ≡ x = let t : Some node ≡ Some x = ap (λ (q : Claimed). q.node) r in cc in
-            let more : worker + 1 ≡ a + 1 = let t : Some (worker + 1) ≡ Some (a + 1) = ap (λ (q : Claimed). q.who) r in
-            cc in
-            let ea : worker ≡ a = omega arith in
-            subst (λ (t : ℕ × (ℕ × (ℕ × ℕ))). Tells meaning_of (ClosesHead meaning_of me.0 t.0 t.1.0 t.1.1.0 t.1.1.1
-            (get_or s.words (head_word place) 0)) me (finished me.0 place worker cost node waiters, me.1))
-            (λ i. (e i, (ea i, (ec i, ex i)))) (record {
-              hands = record {
-                waiters = waiters;
-                named = k.waits.heads place may.near is.is_open;
-                near = subst (λ n. Each (λ q. q < 8 * n) waiters) (sym its_capacity)
-                    (waiters_within (meaning_of rules) capacity (mem s.words).cell (mem s.words).run (mem s.words).head
-                    (mem s.words).next s.views k.waits place may.near);
-                few = subst (λ n. length waiters ≤ 8 * n) (sym its_capacity)
-                    (list_length (meaning_of rules) capacity (mem s.words).cell (mem s.words).run (mem s.words).head
-                    (mem s.words).next s.views k.waits place may.near);
-                leaves = record { hands_are = refl; moment = moment };
-              };
-              slots = refl;
-            }),
-      )
+      let still = closed_stays meaning capacity m place in
+      let closed : 2 ^ 63 ≤ n.head place = omega (arith, put_here m.head place (2 ^ 63)) in
+      store_keeps meaning rules capacity words views id v w (head_word place) (2 ^ 63) n sound mine
+      (put_head words place (2 ^ 63) (omega arith)) refl refl
+      (record {
+        cells = k.cells;
+        blank = blank_head meaning capacity m place (2 ^ 63) is_goal k.blank;
+        rights = rights_close capacity m.run m.head views id v place worker cost node waiters mine has_right settled
+            k.rights;
+        waits = waits_close meaning capacity m views id v w place k.waits mine near
+            (ap (λ o. in_hand o v.walk) free ∙ walked) (ap (λ o. in_hand o w.walk) free);
+        promises = promises_close meaning capacity m place
+            (subst (IsPromised meaning capacity m.cell m.head) (sym cell)
+            (shown_promise meaning capacity m k.promises v.looks own.stays may.goal may.promise))
+            (subst (λ c. meaning.answer (m.cell place) c (m.node place)) (sym (stored.cost_is cost refl))
+            (subst (λ x. meaning.answer (m.cell place) cost x) (sym (stored.node_is node refl))
+            (subst (λ g. meaning.answer g cost node) (sym cell) may.answer)))
+            k.promises;
+        full = k.full;
+        others = λ other u ne there h.
+            let stays = stays_close meaning capacity m place u.looks h.stays in
+            let recorded = recorded_still meaning capacity m n.head still u.done h.recorded in
+            let still_walked = walked_still meaning capacity m n.head still u.walk h.walked in
+            assumption (h, stays, recorded, still_walked);
+        own = record {
+          stays = own_stays_close meaning capacity m place (head_of waiters) v.looks own.stays;
+          absence = ((λ _ word p p_near is. absurd (omega (arith, is))), own.absence);
+          recorded = (
+            record {
+              near = near;
+              closed = closed;
+              cost_is = stored.cost_is cost refl;
+              node_is = stored.node_is node refl;
+              who_is = stored.who_is (worker + 1) refl;
+              few = may.few;
+            },
+            recorded_still meaning capacity m n.head still v.done own.recorded,
+          );
+          stored = each_without (IsStored m.cost m.node m.who) place v.rights own.stored;
+          ends = ends_close v place worker cost node waiters has own.ends;
+          raised = each_without (IsRaised m.run v.pending) place v.rights own.raised;
+          pends = subst (ArePending meaning capacity m.cell m.next w.looks w.rights) (sym free) tt;
+          walked = record {
+            chained = k.waits.chains place near;
+            read = λ found none_read. let no : ⊥ = cc in absurd no;
+            waited = each_as (λ q. meaning.child (m.cell (q / 8)) (m.cell place))
+                (WaitedFor meaning capacity m.cell n.head place)
+                (λ q is_child. record { near = near; closed = closed; is_child = is_child }) waiters
+                (k.waits.joined place near);
+          };
+          awake = inr (awake_has rules capacity v some_part own.awake);
+        };
+      })
 
   pub close_allowed : (slots id : ℕ) (me : Sat R) (i place worker cost node : ℕ) → i ≡ head_word place → HasPart me.0
       → MayClose (meaning_of rules) capacity me.0 place worker cost node
       → Allows (Holds meaning_of rules capacity) slots id me i (λ _. 2 ^ 63)
       (TellsClose meaning_of (step slots i (2 ^ 63) 0 none) me)
-  close_allowed slots id me i place worker cost node is some_part may =
-      subst (λ j. Allows (Holds meaning_of rules capacity) slots id me j (λ _. 2 ^ 63)
-      (TellsClose meaning_of (step slots j (2 ^ 63) 0 none) me)) (sym is)
-      (close_at slots id me place worker cost node some_part may)
+  close_allowed slots id me i place worker cost node word_is some_part may =
+      rw word_is (λ s sound homes mine fits.
+      let m : Mem = mem s.words in
+      let k = sound.by_kinds in
+      let waiters : List ℕ = k.waits.lists place in
+      let left : Hands R = finished me.0 place worker cost node waiters in
+      let its_right : Claimed = answered_right place worker cost node in
+      let has : HasRight capacity me.0.rights place =
+      record { near = may.near; held = among_counts (λ (r : Claimed). r.place) me.0.rights its_right may.stored } in
+      let is = held_by capacity m.run m.head s.views id me.0 place mine has k.rights in
+      let its_capacity : capacity ≡ me.0.capacity =
+      sym (awake_has rules capacity me.0 some_part (k.hands id me.0 mine).awake).2 in
+      let few : rights_at place me.0.rights ≤ 1 = omega (arith, is.right_once) in
+      let leaves = (told_left meaning_of rules capacity s.words s.views id me.0 (head_word place) sound mine some_part
+      left me.1).hands in
+      let within = waiters_within (meaning_of rules) capacity m.cell m.run m.head m.next s.views k.waits place
+      may.near in
+      let long = list_length (meaning_of rules) capacity m.cell m.run m.head m.next s.views k.waits place may.near in (
+        left,
+        keeps,
+        tt,
+        close_keeps s.words s.views id me.0 place worker cost node sound mine some_part may,
+        λ p a c x same stored.
+            let p_is : place ≡ p = omega (arith, same) in
+            let r : its_right ≡ answered_right p a c x =
+            only_one (λ (r : Claimed). r.place) me.0.rights its_right (answered_right p a c x) few (sym p_is) may.stored
+            stored in
+            let costs : Some cost ≡ Some c = ap (λ (q : Claimed). q.cost) r in
+            let nodes : Some node ≡ Some x = ap (λ (q : Claimed). q.node) r in
+            let workers : Some (worker + 1) ≡ Some (a + 1) = ap (λ (q : Claimed). q.who) r in
+            let c_is : cost ≡ c = cc in
+            let x_is : node ≡ x = cc in
+            let more : worker + 1 ≡ a + 1 = cc in
+            let a_is : worker ≡ a = omega arith in
+            rw (← p_is, ← c_is, ← x_is, ← a_is) (record {
+              hands = record {
+                waiters = waiters;
+                named = k.waits.heads place may.near is.is_open;
+                near = subst (λ n. Each (λ q. q < 8 * n) waiters) its_capacity within;
+                few = subst (λ n. length waiters ≤ 8 * n) its_capacity long;
+                leaves = leaves;
+              };
+              slots = refl;
+            }),
+      ))

@@ -17,6 +17,7 @@ pub mod Suspending
 pub mod AnswerWords
 pub mod Answering
 pub mod Filling
+pub mod HeadTopics
 pub mod CloseTopics
 pub mod Closing
 pub mod WaitLooks

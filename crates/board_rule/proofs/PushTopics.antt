@@ -1,22 +1,23 @@
 -- What an open head that gets one waiter more leaves of each topic.
-use Rattle.std.proofs.Common.{◌≡◌, ℕ, ◌+◌, ◌*◌, ◌/◌, ◌%◌, ◌^◌, ◌<◌, ◌≤◌, ◌≢◌, List, None, Some, cond, eqb, eq-eqb}
-use Rattle.std.proofs.Common.{ne_eqb, set, sym, refl, ap, subst, ◌∙◌, inl, inr, ⊎_elim, arith}
+use Rattle.std.proofs.Common.{◌≡◌, ℕ, ◌+◌, ◌*◌, ◌/◌, ◌%◌, ◌^◌, ◌<◌, ◌≤◌, ◌≢◌, List, None, Some, cond, eqb}
+use Rattle.std.proofs.Common.{set, sym, refl, ap, subst, ◌∙◌, inl, inr, arith}
 use mathlib.Core.Option.{some}
 use lib.ListN.{get_elem?}
-use Rattle.std.proofs.lemmas.Bool.{cases_eq}
 use Rattle.board_rule.specs.Meaning.{Meaning}
-use Rattle.board_rule.specs.Records.{Claimed, Ended, Pending, Walk}
-use Rattle.board_rule.specs.Words.{Mem, put}
+use Rattle.board_rule.specs.Records.{Claimed, Pending}
+use Rattle.board_rule.specs.Words.{Mem, put, head_word}
 use Rattle.board_rule.specs.Waiters.{IsLater}
 use Rattle.board_rule.specs.Seats.{Each, waits_at, with_wait}
-use Rattle.board_rule.specs.Soundness.{HoldsGoal, KeepsBlank, IsPromised, KeepsPromises, KeepsRights, Stays, IsRecorded}
-use Rattle.board_rule.specs.Soundness.{IsStored, IsRaised, WaitedFor, IsWalked, held, ended}
+use Rattle.board_rule.specs.Soundness.{KeepsPromises, KeepsRights, Stays}
+use Rattle.board_rule.specs.Soundness.{IsStored, IsRaised, held, ended}
 use Rattle.board_rule.specs.declared.hands.Hands.{Hands}
-use Rattle.board_rule.proofs.Lists.{put_here, put_else, put_cases, each_as, total_same}
+use Rattle.board_rule.proofs.Lists.{put_here, put_else, put_cases, total_same, cond_cases}
 use Rattle.board_rule.proofs.Rights.{rights_at, done_at, rights_moved}
 use Rattle.board_rule.proofs.Chains.{later_then}
 use Rattle.board_rule.proofs.AnswerWords.{each_map, each_both}
 use Rattle.board_rule.proofs.Raised.{count_none, waits_each}
+use Rattle.board_rule.proofs.HeadTopics.{promised_still}
+use Rattle.board_rule.specs.Looks.{Looked}
 
 module _ (meaning : Meaning) (capacity : ℕ) (m : Mem) (c to : ℕ) (was_open : m.head c < 2 ^ 63) (is_open : to < 2 ^ 63)
   where
@@ -25,70 +26,27 @@ module _ (meaning : Meaning) (capacity : ℕ) (m : Mem) (c to : ℕ) (was_open :
     closed_before p = put_cases m.head c to p (λ x. 2 ^ 63 ≤ x → 2 ^ 63 ≤ m.head p) (λ _ closed. absurd (omega arith))
         (λ _ closed. closed)
 
-    closed_still : (p : ℕ) → 2 ^ 63 ≤ m.head p → 2 ^ 63 ≤ put m.head c to p
+    pub closed_still : (p : ℕ) → 2 ^ 63 ≤ m.head p → 2 ^ 63 ≤ put m.head c to p
     closed_still p closed = put_cases m.head c to p (λ x. 2 ^ 63 ≤ x) (λ e. let lt =
         subst (λ q. m.head q < 2 ^ 63) (sym e) was_open in absurd (omega arith)) (λ _. closed)
-
-    promised_push : (goal : ℕ) → IsPromised meaning capacity m.cell m.head goal
-        → IsPromised meaning capacity m.cell (put m.head c to) goal
-    promised_push goal old = record {
-      children = λ child is. let t = old.children child is in (t.0, t.1, t.2, t.3, closed_still t.0 t.4);
-      asked = old.asked;
-    }
 
     pub promises_push : KeepsPromises meaning capacity m.cell m.head m.cost m.node
         → KeepsPromises meaning capacity m.cell (put m.head c to) m.cost m.node
     promises_push old = record {
-      promise = λ p near closed. promised_push (m.cell p) (old.promise p near (closed_before p closed));
+      promise = λ p near closed. promised_still meaning capacity m (put m.head c to) closed_still (m.cell p)
+          (old.promise p near (closed_before p closed));
       answer = λ p near closed. old.answer p near (closed_before p closed);
-    }
-
-    pub recorded_push : (done : List Ended) → Each (IsRecorded capacity m.head m.cost m.node m.who) done
-        → Each (IsRecorded capacity (put m.head c to) m.cost m.node m.who) done
-    recorded_push =
-        each_as (IsRecorded capacity m.head m.cost m.node m.who)
-        (IsRecorded capacity (put m.head c to) m.cost m.node m.who)
-        (λ e old. record {
-          near = old.near;
-          closed = closed_still e.place old.closed;
-          cost_is = old.cost_is;
-          node_is = old.node_is;
-          who_is = old.who_is;
-          few = old.few;
-        })
-
-    pub walked_push : (walk : Walk) → IsWalked meaning capacity m.cell m.head m.next walk
-        → IsWalked meaning capacity m.cell (put m.head c to) m.next walk
-    walked_push walk old = record {
-      chained = old.chained;
-      read = old.read;
-      waited = each_as (WaitedFor meaning capacity m.cell m.head walk.child)
-          (WaitedFor meaning capacity m.cell (put m.head c to) walk.child)
-          (λ q was. record { near = was.near; closed = closed_still walk.child was.closed; is_child = was.is_child })
-          walk.waiters old.waited;
     }
 
     pub stays_push : m.head c / 2 ^ 24 < to / 2 ^ 24 → (looks : List (ℕ × ℕ)) → Stays m.cell m.head m.full looks
         → Stays m.cell (put m.head c to) m.full looks
-    stays_push more looks old = record {
-      cells = old.cells;
-      heads = λ p found at. later_then found (m.head p) (put m.head c to p) (old.heads p found at)
-          (put_cases m.head c to p (IsLater (m.head p))
-          (λ e. subst (λ q. IsLater (m.head q) to) (sym e) (inr (inr (was_open, more))))
-          (λ _. inr (inl refl)));
-      set_full = old.set_full;
-    }
-
-    pub blank_push : HoldsGoal meaning capacity m.cell c → KeepsBlank meaning capacity m
-        → KeepsBlank meaning capacity (record m { head = put m.head c to })
-    blank_push holds old p near no_goal = let b = old p near no_goal in record {
-      run = b.run;
-      head = put_else m.head c to p (λ e. no_goal (subst (HoldsGoal meaning capacity m.cell) (sym e) holds)) ∙ b.head;
-      cost = b.cost;
-      node = b.node;
-      who = b.who;
-      next = b.next;
-    }
+    stays_push more looks old =
+        let heads : (p found : ℕ) → Looked looks (head_word p) found → IsLater found (put m.head c to p) =
+        λ p found at. later_then found (m.head p) (put m.head c to p) (old.heads p found at)
+        (put_cases m.head c to p (IsLater (m.head p))
+        (λ e. subst (λ q. IsLater (m.head q) to) (sym e) (inr (inr (was_open, more))))
+        (λ _. inr (inl refl))) in
+        assumption (old, heads)
 
     pub rights_push : {R : Type 0} (views : List (Hands R)) (id : ℕ) (v w : Hands R) → get_elem? views id ≡ some v
         → c < capacity
@@ -119,11 +77,7 @@ more_waits place r = cond (eqb r.place place) (record r { waits = r.waits + 1 })
 more_waits_cases : (place : ℕ) (r : Claimed) (Fact : Claimed → Type 0)
     → (r.place ≡ place → Fact (record r { waits = r.waits + 1 })) → (r.place ≢ place → Fact r)
     → Fact (more_waits place r)
-more_waits_cases place r Fact here else =
-    ⊎_elim
-    (λ e. subst (λ b. Fact (cond b (record r { waits = r.waits + 1 }) r)) (sym (eq-eqb r.place place e)) (here e))
-    (λ ne. subst (λ b. Fact (cond b (record r { waits = r.waits + 1 }) r)) (sym (ne_eqb r.place place ne)) (else ne))
-    (cases_eq r.place place)
+more_waits_cases place r = cond_cases r.place place (record r { waits = r.waits + 1 }) r
 
 pub same_place : (place : ℕ) (r : Claimed) → (more_waits place r).place ≡ r.place
 same_place place r = more_waits_cases place r (λ s. s.place ≡ r.place) (λ _. refl) (λ _. refl)
@@ -133,7 +87,7 @@ pub stored_push : (cost node who : ℕ → ℕ) (place : ℕ) (rights : List Cla
 stored_push cost node who place =
     each_map (IsStored cost node who) (IsStored cost node who) (more_waits place)
     (λ r old. more_waits_cases place r (IsStored cost node who)
-    (λ _. record { cost_is = old.cost_is; node_is = old.node_is; who_is = old.who_is }) (λ _. old))
+    (λ _. assumption old) (λ _. old))
 
 -- the wait that was being put in is the right's
 pub raised_push : (run : ℕ → ℕ) (x : Pending) (rights : List Claimed) → rights_at (x.waiter / 8) rights ≤ 1

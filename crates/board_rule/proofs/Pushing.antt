@@ -1,34 +1,35 @@
 -- A compare-exchange of an open head to one with one waiter more keeps soundness.
-use Rattle.std.proofs.Common.{length-set, ◌≡◌, ℕ, ◌+◌, ◌/◌, ◌%◌, ◌^◌, ◌<◌, ◌≤◌, false, List, [], ◌∷◌, length, Option}
-use Rattle.std.proofs.Common.{Some, eqb, get_or, set, sym, refl, ap, subst, ◌∙◌, inl, inr, ⊎_elim, arith}
+use Rattle.std.proofs.Common.{◌≡◌, ℕ, ◌+◌, ◌/◌, ◌%◌, ◌^◌, ◌<◌, ◌≤◌, false, List, [], ◌∷◌, length, Option}
+use Rattle.std.proofs.Common.{Some, eqb, get_or, set, sym, refl, ap, subst, ◌∙◌, inl, inr, arith}
 use mathlib.Core.Option.{some, none}
 use lib.ListN.{get_elem?}
-use lib.Seq.{set-get_or}
 use prog.Atomic.{either}
 use Rattle.atomic_table.specs.Table.{keeps, step, Allows}
 use Rattle.atomic_table.proofs.Lists.{exchanged}
 use Rattle.board_rule.specs.Meaning.{Meaning}
 use Rattle.board_rule.specs.Records.{Claimed, Pending}
 use Rattle.board_rule.specs.Words.{Mem, mem, put, head_word}
-use Rattle.board_rule.specs.Waiters.{first_of, head_of, pushed, IsChain, IsLater, waiting}
+use Rattle.board_rule.specs.Waiters.{first_of, head_of, pushed, IsChain, waiting}
 use Rattle.board_rule.specs.Seats.{Each, in_hand, head_seen, wait_put}
-use Rattle.board_rule.specs.Soundness.{ArePending, IsRaised, Stays, KeepsWaits, AreHands, IsSoundBy, IsSound}
+use Rattle.board_rule.specs.Soundness.{ArePending, IsRaised, Stays, KeepsWaits, IsSound}
 use Rattle.board_rule.specs.May.{MayPush, HasPart}
-use Rattle.board_rule.specs.Plays.{Sat, TellsPutWait, PushesWait, Tells}
+use Rattle.board_rule.specs.Plays.{Sat, TellsPutWait}
 use Rattle.board_rule.specs.declared.hands.Hands.{Hands}
-use Rattle.board_rule.proofs.Lists.{put_here, put_cases, total_same, total-set}
+use Rattle.board_rule.proofs.Lists.{put_here, put_cases, total-set}
 use Rattle.board_rule.proofs.Stores.{put_head}
-use Rattle.board_rule.proofs.Frames.{awake_has, of_others_set, alone_set, moment_of}
+use Rattle.board_rule.proofs.Frames.{awake_has, moment_of, store_keeps}
 use Rattle.board_rule.proofs.Rights.{held_by}
 use Rattle.board_rule.proofs.Chains.{count, put_list, put_list_cases, below_put_list}
 use Rattle.board_rule.proofs.AnswerWords.{times_map}
 use Rattle.board_rule.proofs.Waits.{pending_at}
 use Rattle.board_rule.proofs.RunWords.{absence_beside}
 use Rattle.board_rule.proofs.Lengths.{list_length, first_within}
-use Rattle.board_rule.proofs.PushTopics.{promises_push, recorded_push, walked_push, stays_push, blank_push, rights_push}
+use Rattle.board_rule.proofs.PushTopics.{promises_push, stays_push, rights_push, closed_still}
 use Rattle.board_rule.proofs.PushTopics.{more_waits, same_place, stored_push, raised_push}
 use Rattle.board_rule.proofs.Putting.{Leads}
-use Rattle.board_rule.proofs.Looking.{Holds, wait_look_keeps}
+use Rattle.board_rule.proofs.Looking.{Holds, wait_look_keeps, load_keeps}
+use Rattle.board_rule.proofs.HeadTopics.{blank_head, recorded_still, walked_still}
+use Rattle.board_rule.proofs.Truths.{stays_looked}
 
 -- the number and the first waiter of a head
 head_parts : (l : List ℕ) (h : ℕ) → h ≡ head_of l → first_of l < 2 ^ 24 → (h / 2 ^ 24 ≡ length l)
@@ -106,65 +107,41 @@ module _ {R : Type 0} (meaning_of : R → Meaning) (rules : R) (capacity : ℕ) 
       let more : m.head c / 2 ^ 24 < to / 2 ^ 24 = omega (arith, ap (λ y. y / 2 ^ 24) found) in
       let less : (p : ℕ) → count p (in_hand v.pending v.walk) ≡ count p (q ∷ []) + count p (in_hand w.pending w.walk) =
       λ p. ap (λ o. count p (in_hand o v.walk)) may.is ∙ omega arith in
-      record {
-        count = length-set words (head_word c) to ∙ total_count;
-        by_kinds = subst (λ k. IsSoundBy meaning rules capacity k (set views id w))
-            (sym (put_head words c to (omega arith))) (record {
-              cells = k.cells;
-              blank = blank_push meaning capacity m c to was_open is_open seen.child_goal k.blank;
-              rights = rights_push meaning capacity m c to was_open is_open views id v w mine near
-                  (λ p. counts p v.rights) refl
-                  k.rights;
-              waits = waits_push meaning capacity m views id v w c q to k.waits mine near was_open is_open
-                  (omega (arith, parts.0)) (seen.links may.linked ∙ parts.1) seen.is_child less;
-              promises = promises_push meaning capacity m c to was_open is_open k.promises;
-              full = k.full;
-              hands = of_others_set (AreHands meaning rules capacity m) (AreHands meaning rules capacity n) views id w
-                  (λ other u ne there h. record {
-                    stays = stays_push meaning capacity m c to was_open is_open more u.looks h.stays;
-                    absence = h.absence;
-                    recorded = recorded_push meaning capacity m c to was_open is_open u.done h.recorded;
-                    stored = h.stored;
-                    ends = h.ends;
-                    raised = h.raised;
-                    pends = h.pends;
-                    walked = walked_push meaning capacity m c to was_open is_open u.walk h.walked;
-                    awake = h.awake;
-                  })
-                  k.hands
-                  (record {
-                    stays = stays_pushed m c head to v.looks head_open
-                        (subst (λ y. y / 2 ^ 24 < to / 2 ^ 24) found more)
-                        (stays_push meaning capacity m c to was_open is_open more v.looks own.stays);
-                    absence = absence_beside meaning capacity v.looks (head_word c) head (λ p e. omega arith)
-                        own.absence;
-                    recorded = recorded_push meaning capacity m c to was_open is_open v.done own.recorded;
-                    stored = stored_push m.cost m.node m.who (q / 8) v.rights own.stored;
-                    ends = λ p. omega (arith, own.ends p, counts p v.rights);
-                    raised = raised_push m.run x v.rights (omega (arith, is.right_once)) old.its_wait
-                        (subst (λ o. Each (IsRaised m.run o) v.rights) may.is own.raised);
-                    pends = tt;
-                    walked = walked_push meaning capacity m c to was_open is_open v.walk own.walked;
-                    awake = inr (awake_has rules capacity v some_part own.awake);
-                  });
-              parts = total_same (λ (h : Hands R). h.parts) views id v w mine refl ∙ k.parts;
-            });
-        alone = alone_set words views id (head_word c) to v w mine refl sound.alone;
-      }
-    where
-      -- the seat's own look found the head that it changed
-      stays_pushed : (m : Mem) (c head to : ℕ) (looks : List (ℕ × ℕ)) → head < 2 ^ 63 → head / 2 ^ 24 < to / 2 ^ 24
-          → Stays m.cell (put m.head c to) m.full looks
-          → Stays m.cell (put m.head c to) m.full ((head_word c, head) ∷ looks)
-      stays_pushed m c head to looks was_open more old = record {
-        cells = λ p y at some_found. ⊎_elim (λ t. absurd (omega (arith, t.0))) (λ t. old.cells p y t some_found) at;
-        heads = λ p y at. ⊎_elim
-            (λ t. let here : p ≡ c = omega (arith, t.0) in subst (λ f. IsLater f (put m.head c to p)) t.1
-            (subst (IsLater head) (sym (ap (put m.head c to) here ∙ put_here m.head c to))
-            (inr (inr (was_open, more)))))
-            (λ t. old.heads p y t) at;
-        set_full = λ y at some_found. ⊎_elim (λ t. absurd (omega (arith, t.0))) (λ t. old.set_full y t some_found) at;
-      }
+      let still = closed_still meaning capacity m c to was_open is_open in
+      let pushed_stays : (looks : List (ℕ × ℕ)) → Stays m.cell m.head m.full looks → Stays m.cell n.head m.full looks =
+      stays_push meaning capacity m c to was_open is_open more in
+      store_keeps meaning rules capacity words views id v w (head_word c) to n sound mine
+      (put_head words c to (omega arith)) refl refl
+      (record {
+        cells = k.cells;
+        blank = blank_head meaning capacity m c to seen.child_goal k.blank;
+        rights = rights_push meaning capacity m c to was_open is_open views id v w mine near (λ p. counts p v.rights)
+            refl k.rights;
+        waits = waits_push meaning capacity m views id v w c q to k.waits mine near was_open is_open
+            (omega (arith, parts.0)) (seen.links may.linked ∙ parts.1) seen.is_child less;
+        promises = promises_push meaning capacity m c to was_open is_open k.promises;
+        full = k.full;
+        others = λ other u ne there h.
+            let stays = pushed_stays u.looks h.stays in
+            let recorded = recorded_still meaning capacity m n.head still u.done h.recorded in
+            let walked = walked_still meaning capacity m n.head still u.walk h.walked in
+            assumption (h, stays, recorded, walked);
+        own = record {
+          stays = stays_looked m.cell n.head m.full v.looks (head_word c) head (λ p e. absurd (omega (arith, e)))
+              (λ p e. let p_is : p ≡ c = omega (arith, e) in
+              rw (p_is, put_here m.head c to) (inr (inr (head_open, omega (arith, ap (λ y. y / 2 ^ 24) found)))))
+              (λ e. absurd (omega (arith, e))) (pushed_stays v.looks own.stays);
+          absence = absence_beside meaning capacity v.looks (head_word c) head (λ p e. omega arith) own.absence;
+          recorded = recorded_still meaning capacity m n.head still v.done own.recorded;
+          stored = stored_push m.cost m.node m.who (q / 8) v.rights own.stored;
+          ends = λ p. omega (arith, own.ends p, counts p v.rights);
+          raised = raised_push m.run x v.rights (omega (arith, is.right_once)) old.its_wait
+              (subst (λ o. Each (IsRaised m.run o) v.rights) may.is own.raised);
+          pends = tt;
+          walked = walked_still meaning capacity m n.head still v.walk own.walked;
+          awake = inr (awake_has rules capacity v some_part own.awake);
+        };
+      })
 
   -- what is known of the wait where the head had changed
   pends_missed : (m : Mem) (looks : List (ℕ × ℕ)) (rights : List Claimed) (pending : Option Pending) (x : Pending)
@@ -188,60 +165,46 @@ module _ {R : Type 0} (meaning_of : R → Meaning) (rules : R) (capacity : ℕ) 
         looked = λ h at. inl (refl, cc);
       }
 
-  push_at : (slots id : ℕ) (me : Sat R) (x : Pending) (head : ℕ) → 0 < me.0.parts → MayPush capacity me.0 x head
-      → Allows (Holds meaning_of rules capacity) slots id me (head_word x.child)
-      (λ n. either (eqb n head) (pushed head x.waiter) n)
-      (TellsPutWait meaning_of (step slots (head_word x.child) head (pushed head x.waiter) none) me)
-  push_at slots id me x head some_part may s sound homes mine fits =
-      let i : ℕ = head_word x.child in
-      let to : ℕ = pushed head x.waiter in
-      let found : ℕ = get_or s.words i 0 in
-      let v : Hands R = me.0 in
-      let own = sound.by_kinds.hands id v mine in
-      let moment = moment_of meaning_of rules capacity s.words s.views id v i sound mine some_part in
-      exchanged found head to (Leads meaning_of rules capacity s i id me
-      (TellsPutWait meaning_of (step slots i head to none) me))
-      (λ hit. (
-        wait_put v x head,
-        keeps,
-        tt,
-        push_keeps s.words s.views id v x head sound mine some_part may hit,
-        λ y is seen. let one : Some x ≡ Some y = sym may.is ∙ is in let e : x ≡ y = cc in
-            subst (λ z. Tells meaning_of (PushesWait meaning_of v z head found) me (wait_put v x head, me.1)) e
-            (record {
-              hands = record { hit = λ _. refl; miss = λ miss. absurd (miss hit); moment = moment };
-              slots = refl;
-            }),
-      ))
-      (λ miss. (
-        head_seen v x x.child found,
-        keeps,
-        tt,
-        subst (λ (ws : List ℕ). IsSound (meaning_of rules) rules capacity ws
-            (set s.views id (head_seen v x x.child found)))
-            (sym (set-get_or s.words i 0))
-            (wait_look_keeps meaning_of rules capacity s.words s.views id v i
-            (Some (record { waiter = x.waiter; child = x.child; seen = Some found; linked = false })) v.walk sound
-            mine some_part
-            (sym (ap waiting may.is)) refl (pends_missed (mem s.words) v.looks v.rights v.pending x head found may.is
-            may.seen own.pends) own.walked),
-        λ y is seen. let one : Some x ≡ Some y = sym may.is ∙ is in let e : x ≡ y = cc in
-            subst (λ z. Tells meaning_of (PushesWait meaning_of v z head found) me
-            (head_seen v x x.child found, me.1)) e
-            (record {
-              hands = record { hit = λ hit. absurd (miss hit); miss = λ _. refl; moment = moment };
-              slots = refl;
-            }),
-      ))
-
   pub push_allowed : (slots id : ℕ) (me : Sat R) (i : ℕ) (x : Pending) (head to : ℕ) → i ≡ head_word x.child
       → to ≡ pushed head x.waiter → HasPart me.0 → MayPush capacity me.0 x head
       → Allows (Holds meaning_of rules capacity) slots id me i (λ n. either (eqb n head) to n)
       (TellsPutWait meaning_of (step slots i head to none) me)
   push_allowed slots id me i x head to is value some_part may =
-      subst (λ j. Allows (Holds meaning_of rules capacity) slots id me j (λ n. either (eqb n head) to n)
-      (TellsPutWait meaning_of (step slots j head to none) me)) (sym is)
-      (subst (λ y. Allows (Holds meaning_of rules capacity) slots id me (head_word x.child)
-      (λ n. either (eqb n head) y n)
-      (TellsPutWait meaning_of (step slots (head_word x.child) head y none) me)) (sym value)
-      (push_at slots id me x head some_part may))
+      rw (is, value) (λ s sound homes mine fits.
+      let word : ℕ = head_word x.child in
+      let found : ℕ = get_or s.words word 0 in
+      let v : Hands R = me.0 in
+      let own = sound.by_kinds.hands id v mine in
+      let missed : Hands R = head_seen v x x.child found in
+      let moment = moment_of meaning_of rules capacity s.words s.views id v word sound mine some_part in
+      exchanged found head (pushed head x.waiter) (Leads meaning_of rules capacity s word id me
+      (TellsPutWait meaning_of (step slots word head (pushed head x.waiter) none) me))
+      (λ hit. (
+        wait_put v x head,
+        keeps,
+        tt,
+        push_keeps s.words s.views id v x head sound mine some_part may hit,
+        λ y is_wait seen.
+            let wait : Some y ≡ Some x = sym is_wait ∙ may.is in
+            let y_is : y ≡ x = cc in
+            rw y_is (record {
+              hands = record { hit = λ _. refl; miss = λ miss. absurd (miss hit); moment = moment };
+              slots = refl;
+            }),
+      ))
+      (λ miss. (
+        missed,
+        keeps,
+        tt,
+        load_keeps meaning_of rules capacity s.words (set s.views id missed) word
+            (wait_look_keeps meaning_of rules capacity s.words s.views id v word missed.pending v.walk sound mine
+            some_part (sym (ap waiting may.is)) refl
+            (pends_missed (mem s.words) v.looks v.rights v.pending x head found may.is may.seen own.pends) own.walked),
+        λ y is_wait seen.
+            let wait : Some y ≡ Some x = sym is_wait ∙ may.is in
+            let y_is : y ≡ x = cc in
+            rw y_is (record {
+              hands = record { hit = λ hit. absurd (miss hit); miss = λ _. refl; moment = moment };
+              slots = refl;
+            }),
+      )))
