@@ -53,35 +53,25 @@ module _ {R : Type 0} (meaning : Meaning) (capacity : ℕ) (m : Mem) (views : Li
           seen = λ head at.
               let s = old.seen head at in
               let g = s.child_goal in
-              record {
-                near = s.near;
-                child_goal = subst (λ c. (c ≢ 0) × IsTrue (meaning.goal c)) (sym (taken_same x.child g.0)) g;
-                is_child = child_put (x.waiter / 8) x.child
-                    (handed_stands meaning capacity m views blank waits id v mine x.waiter
-                    (subst (λ o. Among (in_hand o v.walk) x.waiter) (sym is) (inl refl))) g.0 s.is_child;
-                was_open = s.was_open;
-                links = s.links;
-              };
+              let child_goal = subst (λ c. (c ≢ 0) × IsTrue (meaning.goal c)) (sym (taken_same x.child g.0)) g in
+              let is_child = child_put (x.waiter / 8) x.child
+              (handed_stands meaning capacity m views blank waits id v mine x.waiter
+              (subst (λ o. Among (in_hand o v.walk) x.waiter) (sym is) (inl refl))) g.0 s.is_child in
+              assumption (s, child_goal, is_child);
           looked = old.looked;
         })
 
     pub walked_put : IsWalked meaning capacity m.cell m.head m.next v.walk
         → IsWalked meaning capacity (put m.cell place word) m.head m.next v.walk
-    walked_put old = record {
-      chained = old.chained;
-      read = old.read;
-      waited = each_with (WaitedFor meaning capacity m.cell m.head v.walk.child)
-          (WaitedFor meaning capacity (put m.cell place word) m.head v.walk.child) v.walk.waiters
-          (λ q at was.
-          let closed = was.closed in
-          let stands : m.cell v.walk.child ≢ 0 = λ none. let h =
-          (blank v.walk.child was.near (λ holds. holds.0 none)).head in absurd (omega arith) in
-          record {
-            near = was.near;
-            closed = closed;
-            is_child = child_put (q / 8) v.walk.child
-                (handed_stands meaning capacity m views blank waits id v mine q
-                (among_right (waiting v.pending) v.walk.waiters q at)) stands was.is_child;
-          })
-          old.waited;
-    }
+    walked_put old =
+        let waited = each_with (WaitedFor meaning capacity m.cell m.head v.walk.child)
+        (WaitedFor meaning capacity (put m.cell place word) m.head v.walk.child) v.walk.waiters
+        (λ q at was.
+        let closed = was.closed in
+        let stands : m.cell v.walk.child ≢ 0 = λ none.
+        let zero_head = (blank v.walk.child was.near (λ holds. holds.0 none)).head in absurd (omega arith) in
+        let is_child = child_put (q / 8) v.walk.child (handed_stands meaning capacity m views blank waits id v mine q
+        (among_right (waiting v.pending) v.walk.waiters q at)) stands was.is_child in
+        assumption (was, is_child))
+        old.waited in
+        assumption (old, waited)

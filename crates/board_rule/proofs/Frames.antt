@@ -27,11 +27,7 @@ module _ {R : Type 0} where
   of_all_set Fact views id w old new k u e =
       ⊎_elim (λ t. subst Fact t.1 new) (λ t. old k u t.1) (at_set views id k w u e)
 
-  pub of_all_as : (P Q : Hands R → Type 0) (views : List (Hands R)) → ((v : Hands R) → P v → Q v) → OfAll P views
-      → OfAll Q views
-  of_all_as P Q views follows old k u e = follows u (old k u e)
-
-  -- as the two before, where the fact of the others may depend on their being others
+  -- also where the fact of the others may depend on their being others
   pub of_others_set : (P Q : Hands R → Type 0) (views : List (Hands R)) (id : ℕ) (w : Hands R)
       → ((k : ℕ) (u : Hands R) → k ≢ id → get_elem? views k ≡ some u → P u → Q u) → OfAll P views → Q w
       → OfAll Q (set views id w)

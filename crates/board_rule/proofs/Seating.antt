@@ -9,14 +9,14 @@ use Rattle.board_rule.specs.Meaning.{Meaning}
 use Rattle.board_rule.specs.Records.{Claimed, Paused, Ended}
 use Rattle.board_rule.specs.Words.{mem}
 use Rattle.board_rule.specs.Seats.{times, in_hand, lasting, spent, parted, part, joined}
-use Rattle.board_rule.specs.Soundness.{IsRecorded, AreHands, OfAll, KeepsAlone, IsSound, held, ended}
+use Rattle.board_rule.specs.Soundness.{IsRecorded, AreHands, OfAll, KeepsAlone, IsSound, held, ended, IsAwake}
 use Rattle.board_rule.specs.declared.hands.Hands.{Hands}
 use Rattle.board_rule.proofs.Lists.{some_below, each_append, times-append, total-append, total-set, total_same}
 use Rattle.board_rule.proofs.Frames.{are_rights_as, awake_has, of_all_set}
 use Rattle.board_rule.proofs.Chains.{count}
 use Rattle.board_rule.proofs.Waits.{waits_as, pending_as}
 use Rattle.board_rule.proofs.Looking.{Holds}
-use Rattle.board_rule.proofs.Opening.{walks_none, hands_of_nothing}
+use Rattle.board_rule.proofs.Opening.{hands_of_nothing}
 use Rattle.board_rule.proofs.SeenByTwo.{looked_append, lasting_looked, absence_append, looked_right}
 use Rattle.board_rule.specs.May.{HasPart, MaySplit, MayJoin}
 
@@ -55,30 +55,12 @@ module _ {R : Type 0} (meaning_of : R → Meaning) (rules : R) (capacity : ℕ) 
       let d : (p : ℕ) → ended (rest ++ right ∷ []) p ≡ ended views p = λ p.
       let f : Hands R → ℕ = λ u. times (λ (e : Ended). e.place) p u.done in
       omega (arith, total-append f rest (right ∷ []), total_same f views id v left mine refl) in
-      let is_left : AreHands (meaning_of rules) rules capacity (mem words) left =
-      record {
-        stays = own.stays;
-        absence = own.absence;
-        recorded = own.recorded;
-        stored = own.stored;
-        ends = own.ends;
-        raised = own.raised;
-        pends = own.pends;
-        walked = own.walked;
-        awake = inr (omega arith, has.1, has.2);
-      } in
+      let left_awake : IsAwake rules capacity left = inr (omega arith, has.1, has.2) in
+      let is_left : AreHands (meaning_of rules) rules capacity (mem words) left = assumption (own, left_awake) in
+      let right_awake : IsAwake rules capacity right = inr (omega arith, has.1, has.2) in
+      let nothing = hands_of_nothing (meaning_of rules) rules capacity (mem words) spent (inl refl) in
       let is_right : AreHands (meaning_of rules) rules capacity (mem words) right =
-      record {
-        stays = own.stays;
-        absence = own.absence;
-        recorded = tt;
-        stored = tt;
-        ends = λ p. refl;
-        raised = tt;
-        pends = tt;
-        walked = walks_none (meaning_of rules) capacity (mem words).cell (mem words).head (mem words).next;
-        awake = inr (omega arith, has.1, has.2);
-      } in
+      assumption (own.stays, own.absence, nothing, right_awake) in
       record {
         count = sound.count;
         by_kinds = record {
