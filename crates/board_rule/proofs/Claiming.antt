@@ -9,7 +9,7 @@ use Rattle.std.specs.Int.{bit_at}
 use Rattle.std.proofs.lemmas.Nat.Bits.{bit_at-zero, bit_at-pow_other}
 use Rattle.board_rule.specs.Meaning.{Meaning}
 use Rattle.board_rule.specs.Words.{Mem, mem, put, run_word}
-use Rattle.board_rule.specs.Seats.{waits_at, fresh_right, looked, claimed}
+use Rattle.board_rule.specs.Seats.{waits_at, fresh_right, claimed}
 use Rattle.board_rule.specs.Soundness.{HoldsGoal, KeepsRights, ArePending, IsSound}
 use Rattle.board_rule.specs.Soundness.{held, ended}
 use Rattle.board_rule.specs.May.{MayClaim, HasPart}

@@ -11,7 +11,7 @@ use Rattle.board_rule.specs.Records.{Claimed}
 use Rattle.board_rule.specs.Words.{Mem, mem, put, run_word}
 use Rattle.board_rule.specs.Waiters.{wait_bit}
 use Rattle.board_rule.specs.Seats.{Each, waits_at, in_hand, wait_begun}
-use Rattle.board_rule.specs.Soundness.{IsRaised, KeepsRights, KeepsWaits, IsSound, held}
+use Rattle.board_rule.specs.Soundness.{IsRaised, KeepsRights, KeepsWaits, IsSound}
 use Rattle.board_rule.specs.May.{HasPart, HasRight, MayBegin}
 use Rattle.board_rule.specs.Plays.{Sat, TellsBeginWait}
 use Rattle.board_rule.specs.declared.hands.Hands.{Hands}

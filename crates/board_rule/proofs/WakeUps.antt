@@ -19,7 +19,7 @@ use Rattle.board_rule.proofs.Chains.{count}
 use Rattle.board_rule.proofs.Waits.{handed, listed_waits, waited_open, waited_stands}
 
 -- one of the first bits is set, or none is
-some_bit : (n k : ℕ) → ((b : ℕ) × (b < k) × (1 ≤ bit_at n b)) ⊎ ((b : ℕ) → b < k → bit_at n b ≡ 0)
+pub some_bit : (n k : ℕ) → ((b : ℕ) × (b < k) × (1 ≤ bit_at n b)) ⊎ ((b : ℕ) → b < k → bit_at n b ≡ 0)
 some_bit n zero = inr (λ b less. absurd (omega arith))
 some_bit n (suc k) =
     ⊎_elim
@@ -112,7 +112,7 @@ module _ {R : Type 0} (meaning : Meaning) (rules : R) (capacity : ℕ) (m : Mem)
   all_finished p near holds = finished_below (rank (m.cell p) + 1) p near holds (omega arith)
 
 -- a sum over seats of which all but one add nothing
-total_only : {A : Type 0} (f : A → ℕ) (l : List A) (j : ℕ) (v : A) → get_elem? l j ≡ some v
+pub total_only : {A : Type 0} (f : A → ℕ) (l : List A) (j : ℕ) (v : A) → get_elem? l j ≡ some v
     → ((k : ℕ) (u : A) → k ≢ j → get_elem? l k ≡ some u → f u ≡ 0) → total f l ≡ f v
 total_only f [] j v at others = absurd (some-ne-none v (sym at))
 total_only f (x ∷ xs) zero v at others =
