@@ -1,16 +1,16 @@
 -- What looks at a goal's head, at its answer words and at the full word tell.
-use Rattle.std.proofs.Common.{◌≡◌, ℕ, ◌^◌, ◌<◌, ◌≤◌, ◌≢◌, Bool, true, false, IsTrue, List, []}
-use Rattle.std.proofs.Common.{◌∷◌, length, get_or, zero, suc, sym, refl, ap, subst, ◌∙◌, inl, inr, ⊎_elim}
+use Rattle.std.proofs.Common.{◌≡◌, ℕ, ◌^◌, ◌<◌, ◌≤◌, ◌≢◌, Bool, true, false, IsTrue, List}
+use Rattle.std.proofs.Common.{length, get_or, sym, refl, subst, ◌∙◌, inl, inr, ⊎_elim}
 use Rattle.std.proofs.Common.{arith}
-use mathlib.Core.Option.{some, some-injective, some-ne-none}
+use mathlib.Core.Option.{some}
 use lib.ListN.{get_elem?}
 use Rattle.board_rule.specs.Meaning.{Meaning}
 use Rattle.board_rule.specs.Words.{mem, full_word, cell_word, head_word, cost_word, node_word}
 use Rattle.board_rule.specs.Looks.{Looked, ShowsFull, ShowsClosed}
 use Rattle.board_rule.specs.Soundness.{HoldsGoal}
 use Rattle.board_rule.proofs.Chains.{later_closed}
-use Rattle.board_rule.proofs.WakeUps.{no_wake_up_lost, some_ready}
-use Rattle.board_rule.specs.Seats.{total, looked}
+use Rattle.board_rule.proofs.WakeUps.{no_wake_up_lost, some_ready, total_only}
+use Rattle.board_rule.specs.Seats.{total}
 use Rattle.board_rule.specs.Plays.{Moment, LooksAt}
 use Rattle.board_rule.specs.declared.hands.Hands.{Hands}
 use Rattle.board_rule.proofs.Truths.{shown_finished, shown_stands}
@@ -18,15 +18,14 @@ use Rattle.goal_board.specs.Seats.{AreHandsOver, IsFree}
 use Rattle.goal_board.specs.Alone.{IsReadyIn}
 use Rattle.goal_board.specs.Calls.{LeavesOut, ReadsAnswer, FindsOpen, ReadsFull}
 use Rattle.goal_board.proofs.Overs.{SoundWith, sound_at}
-use Rattle.goal_board.proofs.Seen.{saw_at, agrees_at, sound_looked, seen_more, seen_one}
+use Rattle.goal_board.proofs.Seen.{agrees_at, seen_none, sees, sound_after}
+use Rattle.board_rule.proofs.Lists.{some_below}
 
 -- the sum over one seat
 only_seat : {R : Type 0} → (f : Hands R → ℕ) (views : List (Hands R)) (id : ℕ) (v : Hands R) → length views ≡ 1
     → get_elem? views id ≡ some v → total f views ≡ f v
-only_seat f [] id v one mine = absurd (omega arith)
-only_seat f (x ∷ []) zero v one mine = omega (arith, ap f (some-injective x v mine))
-only_seat f (x ∷ []) (suc id) v one mine = absurd (some-ne-none v (sym mine))
-only_seat f (x ∷ y ∷ ys) id v one mine = absurd (omega arith)
+only_seat f views id v one mine = total_only f views id v mine (λ k u ne there.
+    absurd (ne (omega (arith, some_below views k u there, some_below views id v mine))))
 
 module _ {R : Type 0} {meaning_of : R → Meaning} {rules : R} {capacity : ℕ} where
   -- where the looks show the full word set, some entry is in no cell
@@ -56,8 +55,7 @@ module _ {R : Type 0} {meaning_of : R → Meaning} {rules : R} {capacity : ℕ} 
       record {
         head = value;
         not_closed = not_closed;
-        looks = seen_one v (head_word at, value) (λ e. omega (arith, e))
-            (saw_at meaning_of rules capacity v (head_word at) value over told.moment);
+        looks = (sees (seen_none v) over told (λ e. omega (arith, e))).looks;
         hands_are = told.hands_are;
         unfinished = λ goal some_goal stands shows.
             let f = shown_finished (meaning_of rules) capacity (mem s.words) k.promises v.looks own.stays goal shows in
@@ -124,8 +122,7 @@ module _ {R : Type 0} {meaning_of : R → Meaning} {rules : R} {capacity : ℕ} 
     unset = unset;
     stays = λ shows. seen_full v value full over told.moment unset shows;
     alone = agrees_at meaning_of rules capacity v full_word value over told.moment;
-    left_out = leaves_out w (subst (SoundWith meaning_of rules capacity) (sym told.hands_are)
-        (sound_looked meaning_of rules capacity v full_word value over told.moment some_part));
+    left_out = leaves_out w (sound_after over some_part told);
   }
 
   -- the answer words of a head that a look found closed
@@ -156,19 +153,15 @@ module _ {R : Type 0} {meaning_of : R → Meaning} {rules : R} {capacity : ℕ} 
       → ReadsAnswer (meaning_of rules) capacity v at (record { cost = cost; node = node }) x
   reads_answer one {v} {w} {u} {x} {at} {head} {cost} {node} near over_v over_w over_u some_part at_head at_cost at_node
       closed =
-      let uw : u ≡ looked (looked v (head_word at) head) (cost_word at) cost = at_cost.hands_are
-      ∙ ap (λ h. looked h (cost_word at) cost) at_head.hands_are in
+      let before = sees (sees (seen_none v) over_v at_head (λ e. omega (arith, e))) over_w at_cost
+      (λ e. omega (arith, e)) in
+      let saw = sees before over_u at_node (λ e. omega (arith, e)) in
+      let uw = before.hands_are in
       record {
         head = head;
         closed = closed;
-        looks = seen_more v u (node_word at, node) ((cost_word at, cost) ∷ ((head_word at, head) ∷ [])) uw
-            (λ e. omega (arith, e))
-            (seen_more v w (cost_word at, cost) ((head_word at, head) ∷ []) at_head.hands_are (λ e. omega (arith, e))
-            (seen_one v (head_word at, head) (λ e. omega (arith, e))
-            (saw_at meaning_of rules capacity v (head_word at) head over_v at_head.moment))
-            (saw_at meaning_of rules capacity w (cost_word at) cost over_w at_cost.moment))
-            (saw_at meaning_of rules capacity u (node_word at) node over_u at_node.moment);
-        hands_are = at_node.hands_are ∙ ap (λ h. looked h (node_word at) node) uw;
+        looks = saw.looks;
+        hands_are = saw.hands_are;
         exact = λ goal some_goal stands.
             let a = answer_at w (cost_word at) cost at near over_w at_cost.moment head
             (subst (λ (h : Hands R). Looked h.looks (head_word at) head) (sym at_head.hands_are) (inl (refl, refl)))
@@ -182,6 +175,5 @@ module _ {R : Type 0} {meaning_of : R → Meaning} {rules : R} {capacity : ℕ} 
             ((mem b.0.words).node at) a.2 b.2 in
             subst (λ c. (meaning_of rules).answer goal c node) (sym same.0 ∙ sym a.1)
             (subst (λ n. (meaning_of rules).answer goal ((mem b.0.words).cost at) n) (sym b.1) b.2);
-        left_out = leaves_out x (subst (SoundWith meaning_of rules capacity) (sym at_node.hands_are)
-            (sound_looked meaning_of rules capacity u (node_word at) node over_u at_node.moment some_part));
+        left_out = leaves_out x (sound_after over_u some_part at_node);
       }

@@ -16,16 +16,15 @@ use Rattle.goal_board.specs.declared.answers.Suspended.{Suspended}
 use Rattle.goal_board.specs.declared.answers.Suspended.TheVariants.{Ready, Waiting}
 use Rattle.goal_board.proofs.Kept.{wait_left, no_wait, some_wait}
 use Rattle.goal_board.proofs.Overs.{sound_at}
-use Rattle.goal_board.proofs.Finishing.{each_elsewhere}
-use Rattle.goal_board.proofs.Seen.{saw_at, seen_more, seen_one}
 use Rattle.board_rule.specs.May.{MaySuspend}
 use Rattle.board_rule.specs.Waiters.{cleared}
 use Rattle.goal_board.specs.Alone.{HasWait}
 use Rattle.board_rule.specs.Records.{Claimed}
 use Rattle.board_rule.proofs.Rights.{held_by, rights_at}
-use Rattle.board_rule.proofs.Lists.{term_le}
+use Rattle.board_rule.proofs.Lists.{term_le, absent_each}
 use Rattle.std.specs.Int.{bit_at}
 use Rattle.std.proofs.lemmas.Nat.Bits.{bit_at-zero}
+use Rattle.goal_board.proofs.Seen.{HasSeen, seen_none, sees_at, sees}
 
 -- whether a word was found set
 pub found_set : (value : ℕ) → IsTrue (not (eqb value 0)) → value ≢ 0
@@ -44,8 +43,7 @@ module _ {R : Type 0} {meaning_of : R → Meaning} {rules : R} {capacity : ℕ} 
     hands_are = told.hands_are ∙ ap (looked v (cell_word at)) same;
     some_word = is_word;
     looks = subst (λ x. IsSeen v ((cell_word at, x) ∷ [])) same
-        (seen_one v (cell_word at, value) (λ e. omega (arith, e))
-        (saw_at meaning_of rules capacity v (cell_word at) value over told.moment));
+        (sees (seen_none v) over told (λ e. omega (arith, e))).looks;
   }
 
   -- no goal stood in the cell
@@ -54,21 +52,17 @@ module _ {R : Type 0} {meaning_of : R → Meaning} {rules : R} {capacity : ℕ} 
       → (value ≡ 0) ⊎ ((meaning_of rules).goal value ≡ false) → FindsBusy (meaning_of rules) capacity v at w
   finds_no_goal {v} {at} {value} over told not_goal = record {
     more = (cell_word at, value) ∷ [];
-    looks = seen_one v (cell_word at, value) (λ e. omega (arith, e))
-        (saw_at meaning_of rules capacity v (cell_word at) value over told.moment);
+    looks = (sees (seen_none v) over told (λ e. omega (arith, e))).looks;
     busy = inl (value, inl (refl, refl), not_goal);
     hands_are = told.hands_are;
   }
 
   -- both looks of a claim
-  both_looks : (v w : Hands R) (at goal value : ℕ) → AreHandsOver meaning_of rules capacity v
+  both_looks : {v w u : Hands R} (at : ℕ) {goal run : ℕ} → AreHandsOver meaning_of rules capacity v
       → AreHandsOver meaning_of rules capacity w → LooksAt meaning_of v (cell_word at) goal w
-      → Moment meaning_of w (run_word at) value → IsSeen v ((run_word at, value) ∷ ((cell_word at, goal) ∷ []))
-  both_looks v w at goal value over after told moment =
-      seen_more v w (run_word at, value) ((cell_word at, goal) ∷ []) told.hands_are (λ e. omega (arith, e))
-      (seen_one v (cell_word at, goal) (λ e. omega (arith, e))
-      (saw_at meaning_of rules capacity v (cell_word at) goal over told.moment))
-      (saw_at meaning_of rules capacity w (run_word at) value after moment)
+      → LooksAt meaning_of w (run_word at) run u → HasSeen v ((run_word at, run) ∷ ((cell_word at, goal) ∷ [])) u
+  both_looks {v} at over after told next =
+      sees (sees (seen_none v) over told (λ e. omega (arith, e))) after next (λ e. omega (arith, e))
 
   -- the seat has no right to a goal whose run word was 0
   no_right : (w : Hands R) (at value : ℕ) → at < capacity → AreHandsOver meaning_of rules capacity w
@@ -79,19 +73,7 @@ module _ {R : Type 0} {meaning_of : R → Meaning} {rules : R} {capacity : ℕ} 
       let running = (s.sound.by_kinds.rights at near).running in
       let none : bit_at ((mem s.words).run at) 8 ≡ 0 = ap (λ n. bit_at n 8) (sym t.1 ∙ free) ∙ bit_at-zero 8 in
       let mine = term_le (λ (h : Hands R). rights_at at h.rights) s.views s.id w s.mine in
-      each_elsewhere at w.rights (omega arith)
-
-  -- and the step after them
-  three_looks : (v w x : Hands R) (at goal run value : ℕ) → AreHandsOver meaning_of rules capacity v
-      → AreHandsOver meaning_of rules capacity w → AreHandsOver meaning_of rules capacity x
-      → LooksAt meaning_of v (cell_word at) goal w → LooksAt meaning_of w (run_word at) run x
-      → Moment meaning_of x (run_word at) value
-      → IsSeen v ((run_word at, value) ∷ ((run_word at, run) ∷ ((cell_word at, goal) ∷ [])))
-  three_looks v w x at goal run value over after last told next moment =
-      seen_more v x (run_word at, value) ((run_word at, run) ∷ ((cell_word at, goal) ∷ []))
-      (next.hands_are ∙ ap (λ h. looked h (run_word at) run) told.hands_are) (λ e. omega (arith, e))
-      (both_looks v w at goal run over after told next.moment)
-      (saw_at meaning_of rules capacity x (run_word at) value last moment)
+      absent_each (λ (r : Claimed). r.place) at w.rights (omega arith)
 
   pub claims_goal : {v w x u : Hands R} {at goal run value : ℕ} → at < capacity
       → AreHandsOver meaning_of rules capacity v
@@ -102,8 +84,9 @@ module _ {R : Type 0} {meaning_of : R → Meaning} {rules : R} {capacity : ℕ} 
       → ClaimsGoal (meaning_of rules) capacity v at (record { place = at; goal = goal; waits = 0 }) u
   claims_goal {v} {w} {x} {u} {at} {goal} {run} {value} near over after last told some_goal is_goal next ready tries
       free =
+      let saw = both_looks at over after told next in
       let looked_is : x ≡ looked (looked v (cell_word at) goal) (run_word at) 0 =
-      next.hands_are ∙ (ap (λ n. looked w (run_word at) n) ready ∙ ap (λ h. looked h (run_word at) 0) told.hands_are) in
+      saw.hands_are ∙ ap (λ n. looked (looked v (cell_word at) goal) (run_word at) n) ready in
       let is : u ≡ claimed (looked (looked v (cell_word at) goal) (run_word at) 0) at =
       tries.hit free ∙ ap (λ h. claimed h at) looked_is in
       let here : Looked w.looks (cell_word at) goal =
@@ -123,7 +106,7 @@ module _ {R : Type 0} {meaning_of : R → Meaning} {rules : R} {capacity : ℕ} 
             });
         looks = subst (λ n. IsSeen v ((run_word at, 0) ∷ ((run_word at, n) ∷ ((cell_word at, goal) ∷ [])))) ready
             (subst (λ n. IsSeen v ((run_word at, n) ∷ ((run_word at, run) ∷ ((cell_word at, goal) ∷ [])))) free
-            (three_looks v w x at goal run value over after last told next tries.moment));
+            (sees_at saw last tries.moment (λ e. omega (arith, e))));
         hands_are = is;
         new = subst (λ (h : Hands R). Each (λ (r : Claimed). r.place ≢ at) h.rights) looked_is
             (no_right x at value near last tries.moment free);
@@ -138,7 +121,7 @@ module _ {R : Type 0} {meaning_of : R → Meaning} {rules : R} {capacity : ℕ} 
       → FindsBusy (meaning_of rules) capacity v at u
   finds_taken {v} {w} {at} {goal} {value} over after told some_goal is_goal next taken = record {
     more = (run_word at, value) ∷ ((cell_word at, goal) ∷ []);
-    looks = both_looks v w at goal value over after told next.moment;
+    looks = (both_looks at over after told next).looks;
     busy = inr (record {
       earlier = (cell_word at, goal) ∷ [];
       later = (run_word at, value) ∷ [];
@@ -151,7 +134,7 @@ module _ {R : Type 0} {meaning_of : R → Meaning} {rules : R} {capacity : ℕ} 
       taken = taken;
       found = inl (refl, refl);
     });
-    hands_are = next.hands_are ∙ ap (λ h. looked h (run_word at) value) told.hands_are;
+    hands_are = (both_looks at over after told next).hands_are;
   }
 
   -- or the step after it
@@ -163,7 +146,7 @@ module _ {R : Type 0} {meaning_of : R → Meaning} {rules : R} {capacity : ℕ} 
       → FindsBusy (meaning_of rules) capacity v at u
   finds_busy {v} {w} {x} {at} {goal} {run} {value} over after last told some_goal is_goal next tries taken = record {
     more = (run_word at, value) ∷ ((run_word at, run) ∷ ((cell_word at, goal) ∷ []));
-    looks = three_looks v w x at goal run value over after last told next tries.moment;
+    looks = sees_at (both_looks at over after told next) last tries.moment (λ e. omega (arith, e));
     busy = inr (record {
       earlier = (run_word at, run) ∷ ((cell_word at, goal) ∷ []);
       later = (run_word at, value) ∷ [];
@@ -176,8 +159,8 @@ module _ {R : Type 0} {meaning_of : R → Meaning} {rules : R} {capacity : ℕ} 
       taken = taken;
       found = inl (refl, refl);
     });
-    hands_are = tries.miss taken ∙ ap (λ h. looked h (run_word at) value)
-        (next.hands_are ∙ ap (λ h. looked h (run_word at) run) told.hands_are);
+    hands_are = tries.miss taken
+        ∙ ap (λ h. looked h (run_word at) value) (both_looks at over after told next).hands_are;
   }
 
   -- a right was given up
@@ -190,8 +173,7 @@ module _ {R : Type 0} {meaning_of : R → Meaning} {rules : R} {capacity : ℕ} 
     waits = waits;
     ready = ready;
     not_ready = wait_left found;
-    looks = seen_one v (run_word place, found) (λ e. omega (arith, e))
-        (saw_at meaning_of rules capacity v (run_word place) found over told.moment);
+    looks = sees_at (seen_none v) over told.moment (λ e. omega (arith, e));
   }
 
   pub suspends_ready : {v w : Hands R} {place found : ℕ} → AreHandsOver meaning_of rules capacity v

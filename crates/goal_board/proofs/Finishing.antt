@@ -1,21 +1,21 @@
 -- A right whose answer words are stored one after the other.
 use Rattle.std.proofs.Common.{◌≡◌, ℕ, ◌+◌, ◌^◌, ◌<◌, ◌≤◌, ◌≢◌, List, [], ◌∷◌, map, get_or, set, get_or-set_other, cond}
-use Rattle.std.proofs.Common.{eq-eqb, ne_eqb, Some, sym, refl, ap, subst, ◌∙◌, ⊎_elim, ◌==◌, arith}
-use Rattle.std.proofs.lemmas.Bool.{cases_eq}
+use Rattle.std.proofs.Common.{eq-eqb, Some, sym, refl, ap, subst, ◌∙◌, ◌==◌, arith}
 use Rattle.board_rule.specs.Meaning.{Meaning}
 use Rattle.board_rule.specs.Records.{Claimed}
 use Rattle.board_rule.specs.Words.{mem, head_word, cost_word, node_word, who_word}
-use Rattle.board_rule.specs.Seats.{Among, Each, changed, fresh_right}
+use Rattle.board_rule.specs.Seats.{Among, changed, fresh_right}
 use Rattle.board_rule.specs.Seats.{answered_right, without, with_cost, with_node, with_who}
 use Rattle.board_rule.specs.Seats.{cost_stored, node_stored, who_stored}
 use Rattle.board_rule.specs.May.{HasRight}
 use Rattle.board_rule.specs.Plays.{Moment}
 use Rattle.board_rule.specs.declared.hands.Hands.{Hands}
-use Rattle.board_rule.proofs.Lists.{among_map, among_counts, term_le, counts_one}
-use Rattle.board_rule.proofs.Rights.{rights_at, held_by}
+use Rattle.board_rule.proofs.Lists.{among_map, among_counts, term_le, counts_one, cond_cases}
+use Rattle.board_rule.proofs.Rights.{rights_at, held_by, without_cases}
 use Rattle.goal_board.specs.Seats.{AreHandsOver}
 use Rattle.goal_board.specs.RightCalls.{waiting_right}
 use Rattle.goal_board.proofs.Overs.{sound_at}
+use Rattle.board_rule.proofs.AnswerWords.{times_map}
 
 -- the rights, changed at one place
 abbrev pub changed_at : ℕ → (Claimed → Claimed) → List Claimed → List Claimed
@@ -25,10 +25,7 @@ module _ (place : ℕ) (change : Claimed → Claimed) (same_place : (r : Claimed
   -- a right is changed where it is of the place, and else stays
   change_cases : (Fact : Claimed → Type 0) (r : Claimed) → (r.place ≡ place → Fact (change r))
       → (r.place ≢ place → Fact r) → Fact (cond (r.place == place) (change r) r)
-  change_cases Fact r here else = ⊎_elim
-      (λ e. subst (λ b. Fact (cond b (change r) r)) (sym (eq-eqb r.place place e)) (here e))
-      (λ ne. subst (λ b. Fact (cond b (change r) r)) (sym (ne_eqb r.place place ne)) (else ne))
-      (cases_eq r.place place)
+  change_cases Fact r = cond_cases r.place place (change r) r Fact
 
   -- the changed right is among the changed rights
   pub among_changed : (rights : List Claimed) (r : Claimed) → r.place ≡ place → Among rights r
@@ -40,21 +37,15 @@ module _ (place : ℕ) (change : Claimed → Claimed) (same_place : (r : Claimed
   -- each place stands as often in them
   pub times_changed : (p : ℕ) (rights : List Claimed)
       → rights_at p (changed_at place change rights) ≡ rights_at p rights
-  times_changed p [] = refl
-  times_changed p (r ∷ rs) =
-      change_cases (λ q. cond (q.place == p) 1 0 + rights_at p (changed_at place change rs) ≡ rights_at p (r ∷ rs)) r
-      (λ _. let e : (change r).place ≡ r.place = same_place r in let t = times_changed p rs in
-      ap (λ x. cond (x == p) 1 0 + rights_at p (changed_at place change rs)) e
-      ∙ ap (λ n. cond (r.place == p) 1 0 + n) t)
-      (λ _. ap (λ n. cond (r.place == p) 1 0 + n) (times_changed p rs))
+  times_changed = times_map (λ r. cond (r.place == place) (change r) r)
+      (λ r. change_cases (λ q. q.place ≡ r.place) r (λ _. same_place r) (λ _. refl))
 
   -- rights that are all of other places stay
   unchanged : (rights : List Claimed) → rights_at place rights ≡ 0 → changed_at place change rights ≡ rights
   unchanged [] none = refl
   unchanged (r ∷ rs) none =
       change_cases (λ q. q ∷ changed_at place change rs ≡ r ∷ rs) r
-      (λ e. let one : cond {A = ℕ} (r.place == place) 1 0 ≡ 1 = ap (λ b. cond b 1 0) (eq-eqb r.place place e) in
-      absurd (omega arith))
+      (λ e. absurd (omega (arith, counts_one r.place place e)))
       (λ _. ap (λ l. r ∷ l) (unchanged rs (omega arith)))
 
   -- without the one of the place, the rights are as they were
@@ -62,35 +53,15 @@ module _ (place : ℕ) (change : Claimed → Claimed) (same_place : (r : Claimed
       → without place (changed_at place change rights) ≡ without place rights
   without_changed [] few = refl
   without_changed (r ∷ rs) few =
-      ⊎_elim
-      (λ e.
-      let one : cond {A = ℕ} (r.place == place) 1 0 ≡ 1 = ap (λ b. cond b 1 0) (eq-eqb r.place place e) in
-      let left : without place (changed_at place change (r ∷ rs)) ≡ changed_at place change rs =
-      change_cases (λ q. cond (q.place == place) (changed_at place change rs)
-      (q ∷ without place (changed_at place change rs)) ≡ changed_at place change rs) r
-      (λ _. ap (λ b. cond b (changed_at place change rs) (change r ∷ without place (changed_at place change rs)))
-      (eq-eqb (change r).place place (same_place r ∙ e)))
-      (λ ne. absurd (ne e)) in
-      left ∙ unchanged rs (omega arith) ∙ sym (ap (λ b. cond b rs (r ∷ without place rs)) (eq-eqb r.place place e)))
-      (λ ne.
-      let left : without place (changed_at place change (r ∷ rs)) ≡ r ∷ without place (changed_at place change rs) =
-      change_cases (λ q. cond (q.place == place) (changed_at place change rs)
-      (q ∷ without place (changed_at place change rs)) ≡ r ∷ without place (changed_at place change rs)) r
+      change_cases (λ q. without place (q ∷ changed_at place change rs) ≡ without place (r ∷ rs)) r
+      (λ e. without_cases (λ l. l ≡ without place (r ∷ rs)) place (change r) (changed_at place change rs)
+      (λ _. without_cases (λ l. changed_at place change rs ≡ l) place r rs
+      (λ _. unchanged rs (omega (arith, counts_one r.place place e))) (λ ne. absurd (ne e)))
+      (λ ne. absurd (ne (same_place r ∙ e))))
+      (λ ne. without_cases (λ l. l ≡ without place (r ∷ rs)) place r (changed_at place change rs)
       (λ e. absurd (ne e))
-      (λ _. ap (λ b. cond b (changed_at place change rs) (r ∷ without place (changed_at place change rs)))
-      (ne_eqb r.place place ne)) in
-      left ∙ ap (λ l. r ∷ l) (without_changed rs (omega arith))
-      ∙ sym (ap (λ b. cond b rs (r ∷ without place rs)) (ne_eqb r.place place ne)))
-      (cases_eq r.place place)
-
--- no right is of a place that stands in them not at all
-pub each_elsewhere : (place : ℕ) (rights : List Claimed) → rights_at place rights ≡ 0
-    → Each (λ (r : Claimed). r.place ≢ place) rights
-each_elsewhere place [] none = tt
-each_elsewhere place (r ∷ rs) none = (
-  (λ e. let one = counts_one r.place place e in omega arith),
-  each_elsewhere place rs (omega arith),
-)
+      (λ _. without_cases (λ l. r ∷ without place (changed_at place change rs) ≡ l) place r rs
+      (λ e. absurd (ne e)) (λ _. ap (λ l. r ∷ l) (without_changed rs (omega arith)))))
 
 -- a right without waits is as it was claimed
 pub held_fresh : (rights : List Claimed) (place waits : ℕ) → waits ≡ 0 → Among rights (waiting_right place waits)
@@ -139,6 +110,13 @@ left_over rights place worker cost node few =
     without_changed place (λ r. record r { who = Some (worker + 1) }) (λ _. refl) second (omega arith)
     ∙ without_changed place (λ r. record r { node = Some node }) (λ _. refl) first (omega arith)
     ∙ without_changed place (λ r. record r { cost = Some cost }) (λ _. refl) rights (omega arith)
+
+-- the hands once the three words of an answer were stored, one after the other
+pub answer_stored : {R : Type 0} (v : Hands R) {a b w : Hands R} (place worker cost node : ℕ) → a ≡ cost_stored v place cost
+    → b ≡ node_stored a place node → w ≡ who_stored b place (worker + 1)
+    → w ≡ who_stored (node_stored (cost_stored v place cost) place node) place (worker + 1)
+answer_stored v place worker cost node first second third =
+    third ∙ ap (λ h. who_stored h place (worker + 1)) (second ∙ ap (λ h. node_stored h place node) first)
 
 -- a seat has the right to a goal once
 pub once_held : {R : Type 0} (meaning_of : R → Meaning) (rules : R) (capacity : ℕ) (v : Hands R) (word value place : ℕ)

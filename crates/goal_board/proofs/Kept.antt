@@ -1,7 +1,7 @@
 -- How the words that a seat keeps while it is alone change, where one of them does.
 use Rattle.std.proofs.Common.{◌≡◌, ℕ, ◌%◌, ◌^◌, ◌<◌, ◌≤◌, ◌≢◌, nat_le, List, length, length-set, set, get_or-set_other}
 use Rattle.std.proofs.Common.{get_or-set_same, bit_or, Option, None, Some, sym, refl, ap}
-use Rattle.std.proofs.Common.{subst, ◌∙◌, ⊎_elim, arith, ◌⊎◌, inl, inr, zero, suc}
+use Rattle.std.proofs.Common.{subst, ◌∙◌, ⊎_elim, arith, ◌⊎◌}
 use Rattle.std.specs.Int.{bit_at}
 use Rattle.std.proofs.lemmas.Bool.{cases_eq, cases_lt, lt-leb}
 use Rattle.std.proofs.lemmas.Nat.Bits.{bit_at-zero, same_from_bits, bit_at-pow_other, bit_at-pow_same, bit_at-lt}
@@ -10,6 +10,7 @@ use Rattle.board_rule.specs.Waiters.{cleared}
 use Rattle.board_rule.specs.Seats.{changed}
 use Rattle.board_rule.proofs.Chains.{set_other, cleared_same, cleared_other, cleared_none}
 use Rattle.goal_board.specs.Alone.{StaysAlone, KeepsBoard, HasWait}
+use Rattle.board_rule.proofs.WakeUps.{some_bit}
 
 -- one word has changed
 pub stays_changed : (Changes : List ℕ → List ℕ → Type 0) (word x : ℕ) (o : Option (List ℕ))
@@ -121,22 +122,10 @@ no_wait has = let b = has.0 in let few = has.1 in let is_set = has.2 in
     let same : bit_at 256 b ≡ bit_at (2 ^ 8) b = refl in
     omega arith
 
--- one of the first bits is set, or none is
-bits_below : (run n : ℕ) → ((b : ℕ) × (b < n) × (bit_at run b ≡ 1)) ⊎ ((b : ℕ) → b < n → bit_at run b ≡ 0)
-bits_below run zero = inr (λ b few. absurd (omega arith))
-bits_below run (suc n) =
-    ⊎_elim (λ t. inl (t.0, omega (arith, t.1), t.2))
-    (λ none. ⊎_elim
-    (λ (unset : bit_at run n ≡ 0). inr (λ b few. ⊎_elim (λ e. ap (bit_at run) e ∙ unset)
-    (λ ne. none b (omega arith)) (cases_eq b n)))
-    (λ (set_bit : bit_at run n ≢ 0). inl (n, omega arith, let bound = bit_at-lt run n in omega arith))
-    (cases_eq (bit_at run n) 0))
-    (bits_below run n)
-
 -- a run word with its held bit and another has a wait
 pub some_wait : (run : ℕ) → bit_at run 8 ≡ 1 → ((i : ℕ) → 9 ≤ i → bit_at run i ≡ 0) → run ≢ 256 → HasWait run
 some_wait run held small more =
-    ⊎_elim (λ has. has)
+    ⊎_elim (λ t. (t.0, t.1, omega (arith, bit_at-lt run t.0, t.2)))
     (λ none. absurd (more (same_from_bits run (2 ^ 8) (λ i.
     ⊎_elim
     (λ here. ap (bit_at run) here ∙ held ∙ sym (ap (bit_at (2 ^ 8)) here ∙ bit_at-pow_same 8))
@@ -145,4 +134,4 @@ some_wait run held small more =
     (λ high. small i (omega arith) ∙ sym (bit_at-pow_other 8 i ne))
     (cases_lt i 8))
     (cases_eq i 8)))))
-    (bits_below run 8)
+    (some_bit run 8)

@@ -39,16 +39,10 @@ module _ {R : Type 0} {meaning : Meaning} {capacity : ℕ} {v w : Hands R} where
   right_stays : (right : Right) (more : List (ℕ × ℕ)) → w.looks ≡ more ++ v.looks
       → Among w.rights (waiting_right right.place right.waits) → IsRightOf meaning capacity v right
       → IsRightOf meaning capacity w right
-  right_stays right more looks held old = record {
-    near = old.near;
-    held = held;
-    few = old.few;
-    stands = subst (λ (ls : List (ℕ × ℕ)). Looked ls (cell_word right.place) right.goal) (sym looks)
-        (looked_earlier more v.looks (cell_word right.place) right.goal old.stands);
-    some_goal = old.some_goal;
-    is_goal = old.is_goal;
-    enters = old.enters;
-  }
+  right_stays right more looks held old =
+      let stands = subst (λ (ls : List (ℕ × ℕ)). Looked ls (cell_word right.place) right.goal) (sym looks)
+      (looked_earlier more v.looks (cell_word right.place) right.goal old.stands) in
+      assumption (old, held, stands)
 
   pub busy_keeps : {at : ℕ} → FindsBusy meaning capacity v at w → KeepsRights meaning capacity v w
   busy_keeps t right old =

@@ -129,16 +129,12 @@ pub right_registered : {R : Type 0} (meaning : Meaning) (capacity : ℕ) (v w : 
     → w ≡ record v { alone = words; looks = more ++ v.looks; rights = with_wait right.place v.rights }
     → IsRightOf meaning capacity v right → IsRightOf meaning capacity w (record right { waits = right.waits + 1 })
 right_registered meaning capacity v w right words more few is old =
-    subst (λ (h : Hands _). IsRightOf meaning capacity h (record right { waits = right.waits + 1 })) (sym is) (record {
-      near = old.near;
-      held = among_changed right.place (λ r. record r { waits = r.waits + 1 }) (λ _. refl) v.rights
-          (waiting_right right.place right.waits) refl old.held;
-      few = omega arith;
-      stands = looked_earlier more v.looks (cell_word right.place) right.goal old.stands;
-      some_goal = old.some_goal;
-      is_goal = old.is_goal;
-      enters = old.enters;
-    })
+    subst (λ (h : Hands _). IsRightOf meaning capacity h (record right { waits = right.waits + 1 })) (sym is)
+    (let held = among_changed right.place (λ r. record r { waits = r.waits + 1 }) (λ _. refl) v.rights
+    (waiting_right right.place right.waits) refl old.held in
+    let more_waits : right.waits + 1 ≤ 8 = omega arith in
+    let stands = looked_earlier more v.looks (cell_word right.place) right.goal old.stands in
+    assumption (old, held, more_waits, stands))
 
 -- or as it was, where the child was finished
 pub right_kept : {R : Type 0} (meaning : Meaning) (capacity : ℕ) (v w : Hands R) (right : Right)
@@ -147,12 +143,6 @@ pub right_kept : {R : Type 0} (meaning : Meaning) (capacity : ℕ) (v w : Hands 
     → w ≡ record v { alone = words; looks = more ++ v.looks } → IsRightOf meaning capacity v right
     → IsRightOf meaning capacity w right
 right_kept meaning capacity v w right words more is old =
-    subst (λ (h : Hands _). IsRightOf meaning capacity h right) (sym is) (record {
-      near = old.near;
-      held = old.held;
-      few = old.few;
-      stands = looked_earlier more v.looks (cell_word right.place) right.goal old.stands;
-      some_goal = old.some_goal;
-      is_goal = old.is_goal;
-      enters = old.enters;
-    })
+    subst (λ (h : Hands _). IsRightOf meaning capacity h right) (sym is)
+    (let stands = looked_earlier more v.looks (cell_word right.place) right.goal old.stands in
+    assumption (old, stands))

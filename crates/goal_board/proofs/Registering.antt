@@ -6,7 +6,7 @@ use Rattle.board_rule.specs.Meaning.{Meaning}
 use Rattle.board_rule.specs.Records.{Pending}
 use Rattle.board_rule.specs.Words.{mem, run_word, head_word, next_word}
 use Rattle.board_rule.specs.Waiters.{pushed, cleared, waiting}
-use Rattle.board_rule.specs.Seats.{Among, changed, waits_at, with_wait, woken_by, wait_begun, next_stored, wait_put}
+use Rattle.board_rule.specs.Seats.{Among, changed, waits_at, with_wait, wait_begun, next_stored, wait_put}
 use Rattle.board_rule.specs.Seats.{wait_dropped}
 use Rattle.board_rule.specs.Soundness.{IsRaised}
 use Rattle.board_rule.specs.May.{HasRight}
@@ -129,25 +129,12 @@ module _ {R : Type 0} (meaning_of : R → Meaning) (rules : R) (capacity : ℕ) 
           few = let few = p.few in omega arith;
         };
         was_open = was_open;
-        hands_are = all
-            ∙ ap (λ (o : _). record v {
-              alone = o;
-              looks = looks ++ v.looks;
-              rights = with_wait (q / 8) v.rights;
-              pending = None;
-            }) (sym (ap (λ (h : Hands R). h.alone) all))
-            ∙ ap (λ (n : ℕ). record v {
-              alone = z.alone;
-              looks = looks ++ v.looks;
-              rights = with_wait n v.rights;
-              pending = None;
-            }) parts.0
-            ∙ ap (λ (o : _). record v {
-              alone = z.alone;
-              looks = looks ++ v.looks;
-              rights = with_wait place v.rights;
-              pending = o;
-            }) (sym none_pending);
+        hands_are = all ∙ (λ i. record v {
+          alone = sym (ap (λ (h : Hands R). h.alone) all) i;
+          looks = looks ++ v.looks;
+          rights = with_wait (parts.0 i) v.rights;
+          pending = sym none_pending i;
+        });
         lone = record {
           kept = kept;
           has_wait = λ words alone. let t = stays_from
@@ -192,30 +179,17 @@ module _ {R : Type 0} (meaning_of : R → Meaning) (rules : R) (capacity : ℕ) 
           few = let few = p.few in omega arith;
         };
         closed = closed;
-        hands_are = is
-            ∙ ap (λ (words : _). record v {
-              alone = words;
-              looks = looks ++ v.looks;
-              woken = woken_by found q v.woken;
-              pending = None;
-            }) (sym (ap (λ (h : Hands R). h.alone) is))
-            ∙ ap (λ (o : _). record v {
-              alone = z.alone;
-              looks = looks ++ v.looks;
-              woken = woken_by found q v.woken;
-              pending = o;
-            }) (sym none_pending)
-            ∙ ap (λ x. record v { alone = z.alone; looks = looks ++ v.looks; woken = cond x (q / 8 ∷ v.woken) v.woken })
-            (ne_eqb (cleared found (q % 8)) 0 left);
+        hands_are = is ∙ (λ i. record v {
+          alone = sym (ap (λ (h : Hands R). h.alone) is) i;
+          looks = looks ++ v.looks;
+          woken = cond (ne_eqb (cleared found (q % 8)) 0 left i) (q / 8 ∷ v.woken) v.woken;
+          pending = sym none_pending i;
+        });
         lone = stays_as (KeepsBoard place (λ run. cleared (bit_or run (2 ^ waits)) waits))
             (KeepsBoard place (λ run. run)) v.alone z.alone
-            (λ a b alone t. record {
-              same_length = t.same_length;
-              cells = t.cells;
-              heads = t.heads;
-              others = t.others;
-              its_run = t.its_run ∙ subst (λ n. cleared (bit_or n (2 ^ waits)) waits ≡ n)
-                  (kept_word v (run_word place) first over_v first_moment a alone)
-                  (next_unset v place waits first over_v first_moment near few held none_pending);
-            }) here;
+            (λ a b alone t.
+            let its_run = t.its_run ∙ subst (λ n. cleared (bit_or n (2 ^ waits)) waits ≡ n)
+            (kept_word v (run_word place) first over_v first_moment a alone)
+            (next_unset v place waits first over_v first_moment near few held none_pending) in
+            assumption (t, its_run)) here;
       }

@@ -105,7 +105,7 @@ module _ {R : Type 0} {meaning_of : R → Meaning} {b : Board R} {t : Seat R}
       record {
         same_table = same_table;
         over = call.over;
-        free = subst IsFree (sym told) (record { no_wait = free.no_wait; no_walk = free.no_walk });
+        free = subst IsFree (sym told) (assumption free);
       }
 
   -- and so does a compare-exchange from 0 that leaves such hands where it found 0
@@ -116,5 +116,5 @@ module _ {R : Type 0} {meaning_of : R → Meaning} {b : Board R} {t : Seat R}
     same_table = same_table;
     over = either_way (AreHandsOver meaning_of b.setup.rules b.setup.capacity) told.hit told.miss won_over
         (over_looked meaning_of b.setup.rules b.setup.capacity v word value over told.moment);
-    free = either_way IsFree told.hit told.miss won_free (record { no_wait = free.no_wait; no_walk = free.no_walk });
+    free = either_way IsFree told.hit told.miss won_free (assumption free);
   }

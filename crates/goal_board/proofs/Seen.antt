@@ -1,5 +1,6 @@
 -- What holds of looks holds of these and more.
 use Rattle.std.proofs.Common.{◌≡◌, ℕ, ◌<◌, ◌≢◌, List, [], ◌∷◌, ◌++◌, get_or, set, sym, ap, subst, ◌∙◌, inl, inr, ⊎_elim}
+use Rattle.std.proofs.Common.{refl}
 use Rattle.word_table.specs.Probing.{home_of}
 use Rattle.word_table.proofs.Steps.{all_passed_as}
 use Rattle.atomic_table.proofs.Lists.{set_here}
@@ -9,7 +10,7 @@ use Rattle.board_rule.specs.Looks.{Looked, LastFound, SawOther, SawOthers}
 use Rattle.board_rule.specs.Looks.{ShowsFinished, seen_closed, child_of, ShowsEntry}
 use Rattle.board_rule.specs.Looks.{seen_there, asked_by, finished}
 use Rattle.board_rule.specs.Seats.{looked}
-use Rattle.board_rule.specs.Plays.{Moment}
+use Rattle.board_rule.specs.Plays.{Moment, LooksAt}
 use Rattle.board_rule.specs.declared.hands.Hands.{Hands}
 use Rattle.board_rule.proofs.Lists.{some_below}
 use Rattle.board_rule.proofs.Looking.{look_keeps}
@@ -93,40 +94,42 @@ module _ {R : Type 0} (meaning_of : R → Meaning) (rules : R) (capacity : ℕ) 
       })
 
 module _ {R : Type 0} where
-  -- one look more
-  pub agrees_more : (v w : Hands R) (look : ℕ × ℕ) (more : List (ℕ × ℕ)) → w.alone ≡ v.alone → AgreesAlone v more
-      → AgreesAlone w (look ∷ []) → AgreesAlone v (look ∷ more)
-  agrees_more v w look more same old new kept is word value at =
-      ⊎_elim (λ (e : (look.0 ≡ word) × (look.1 ≡ value)). new kept (same ∙ is) word value (inl e))
-      (λ (t : Looked more word value). old kept is word value t) at
-
   -- a look found what the seat keeps, if it is alone, and what it saw before
   pub record SawAt (w : Hands R) (look : ℕ × ℕ) : Type 0 where
     pub alone : AgreesAlone w (look ∷ [])
     pub stays : (place word : ℕ) → Looked w.looks (cell_word place) word → word ≢ 0 → look.0 ≡ cell_word place
         → look.1 ≡ word
 
-  pub seen_more : (v w : Hands R) (look : ℕ × ℕ) (more : List (ℕ × ℕ)) → w ≡ seen more v → look.0 ≢ full_word
-      → IsSeen v more → SawAt w look → IsSeen v (look ∷ more)
-  seen_more v w look more is beside old new = record {
-    quiet = λ value at. ⊎_elim (λ (e : (look.0 ≡ full_word) × (look.1 ≡ value)). beside e.0)
-        (λ (t : Looked more full_word value). old.quiet value t) at;
-    alone = agrees_more v w look more (ap (λ (h : Hands R). h.alone) is) old.alone new.alone;
-    stays = λ place word value saw is_word at. ⊎_elim
-        (λ (e : (look.0 ≡ cell_word place) × (look.1 ≡ value)).
-        sym e.1 ∙ new.stays place word (subst (λ (h : Hands R). Looked h.looks (cell_word place) word) (sym is)
-        (looked_earlier more v.looks (cell_word place) word saw)) is_word e.0)
-        (λ (t : Looked more (cell_word place) value). old.stays place word value saw is_word t) at;
+  -- the looks of a call so far, and the hands after them
+  pub record HasSeen (v : Hands R) (more : List (ℕ × ℕ)) (w : Hands R) : Type 0 where
+    pub looks : IsSeen v more
+    pub hands_are : w ≡ seen more v
+
+  pub seen_none : (v : Hands R) → HasSeen v [] v
+  seen_none v = record {
+    looks = record {
+      quiet = λ value at. at;
+      alone = λ kept is word value at. absurd at;
+      stays = λ place word value saw is_word at. absurd at;
+    };
+    hands_are = refl;
   }
 
-  pub seen_one : (v : Hands R) (look : ℕ × ℕ) → look.0 ≢ full_word → SawAt v look → IsSeen v (look ∷ [])
-  seen_one v look beside new = record {
+  -- one look more
+  pub seen_more : (v w : Hands R) (look : ℕ × ℕ) (more : List (ℕ × ℕ)) → HasSeen v more w → look.0 ≢ full_word
+      → SawAt w look → IsSeen v (look ∷ more)
+  seen_more v w look more old beside new = record {
     quiet = λ value at. ⊎_elim (λ (e : (look.0 ≡ full_word) × (look.1 ≡ value)). beside e.0)
-        (λ (no_look : ⊥). absurd no_look) at;
-    alone = new.alone;
+        (λ (t : Looked more full_word value). old.looks.quiet value t) at;
+    alone = λ kept is word value at. ⊎_elim
+        (λ (e : (look.0 ≡ word) × (look.1 ≡ value)).
+        new.alone kept (ap (λ (h : Hands R). h.alone) old.hands_are ∙ is) word value (inl e))
+        (λ (t : Looked more word value). old.looks.alone kept is word value t) at;
     stays = λ place word value saw is_word at. ⊎_elim
-        (λ (e : (look.0 ≡ cell_word place) × (look.1 ≡ value)). sym e.1 ∙ new.stays place word saw is_word e.0)
-        (λ (no_look : ⊥). absurd no_look) at;
+        (λ (e : (look.0 ≡ cell_word place) × (look.1 ≡ value)).
+        sym e.1 ∙ new.stays place word (subst (λ (h : Hands R). Looked h.looks (cell_word place) word)
+        (sym old.hands_are) (looked_earlier more v.looks (cell_word place) word saw)) is_word e.0)
+        (λ (t : Looked more (cell_word place) value). old.looks.stays place word value saw is_word t) at;
   }
 
 -- a step's look, of a sound board
@@ -138,3 +141,27 @@ saw_at meaning_of rules capacity v word value over m =
       stays = λ place found saw is_word at. t.1 ∙ ap (λ k. get_or t.0.words k 0) at
           ∙ (t.0.sound.by_kinds.hands t.0.id v t.0.mine).stays.cells place found saw is_word;
     }
+
+module _ {R : Type 0} {meaning_of : R → Meaning} {rules : R} {capacity : ℕ} where
+  -- a step at a word other than the full word looks there
+  pub sees_at : {v w : Hands R} {more : List (ℕ × ℕ)} {word value : ℕ} → HasSeen v more w
+      → AreHandsOver meaning_of rules capacity w → Moment meaning_of w word value → word ≢ full_word
+      → IsSeen v ((word, value) ∷ more)
+  sees_at {v} {w} {more} {word} {value} old over moment beside =
+      seen_more v w (word, value) more old beside (saw_at meaning_of rules capacity w word value over moment)
+
+  -- and a load does no more
+  pub sees : {v w u : Hands R} {more : List (ℕ × ℕ)} {word value : ℕ} → HasSeen v more w
+      → AreHandsOver meaning_of rules capacity w → LooksAt meaning_of w word value u → word ≢ full_word
+      → HasSeen v ((word, value) ∷ more) u
+  sees {word = word} {value} old over told beside = record {
+    looks = sees_at old over told.moment beside;
+    hands_are = told.hands_are ∙ ap (λ h. looked h word value) old.hands_are;
+  }
+
+  -- the board is sound after a load
+  pub sound_after : {v w : Hands R} {word value : ℕ} → AreHandsOver meaning_of rules capacity v → 0 < v.parts
+      → LooksAt meaning_of v word value w → SoundWith meaning_of rules capacity w
+  sound_after {v} {word = word} {value} over some_part told =
+      subst (SoundWith meaning_of rules capacity) (sym told.hands_are)
+      (sound_looked meaning_of rules capacity v word value over told.moment some_part)

@@ -34,15 +34,11 @@ module _ {R : Type 0} (meaning_of : R → Meaning) (rules : R) (capacity : ℕ) 
         bound = head_bound meaning_of rules capacity w child head small child_near over_w moment_w;
         rising = λ _. omega arith;
         few = omega arith;
-        hands_are = is
-            ∙ ap (λ (n : ℕ). record (head_seen first (the_wait first) child head) {
-              pending = Some (seen_wait (8 * place + n) child head);
-            }) its
-            ∙ ap (λ (words : _). record v {
-              alone = words;
-              looks = (head_word child, head) ∷ ((run_word place, found) ∷ v.looks);
-              pending = Some (seen_wait (8 * place + waits) child head);
-            }) alone;
+        hands_are = is ∙ (λ i. record v {
+          alone = alone i;
+          looks = (head_word child, head) ∷ ((run_word place, found) ∷ v.looks);
+          pending = Some (seen_wait (8 * place + its i) child head);
+        });
         kept = subst (Begun (8 * place + waits) v.alone) alone
             (kept_begun meaning_of rules capacity v place waits found over moment near few its);
       }

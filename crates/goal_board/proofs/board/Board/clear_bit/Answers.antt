@@ -17,8 +17,7 @@ fetch_and-requires g c =
 pub invariant_of-seat : goal.invariant_of-seat
 invariant_of-seat g c =
     let told = c.fetch_and.ensures.2 c.args.waiter c.requires.may.others c.requires.may.first in
-    let after = still_awake c.args.seat.now told.slots told.hands.hands_are c.args.seat.now.awake in
-    record { bare = after.bare; awake = after.awake }
+    assumption (still_awake c.args.seat.now told.slots told.hands.hands_are c.args.seat.now.awake)
 
 pub returns-clause-told : goal.returns-clause-told
 returns-clause-told g c =

@@ -22,8 +22,7 @@ pub invariant_of-seat : goal.invariant_of-seat
 invariant_of-seat g c =
     let told = c.swap.ensures.2 c.args.place c.args._worker c.args._cost c.args._node c.head_at.ensures
     c.requires.may.stored in
-    let after = still_awake c.args.seat.now told.slots told.hands.leaves.hands_are c.args.seat.now.awake in
-    record { bare = after.bare; awake = after.awake }
+    assumption (still_awake c.args.seat.now told.slots told.hands.leaves.hands_are c.args.seat.now.awake)
 
 pub returns-clause-told : goal.returns-clause-told
 returns-clause-told g c = (c.swap.ensures.2 c.args.place c.args._worker c.args._cost c.args._node c.head_at.ensures

@@ -14,8 +14,8 @@ look-found-requires-clause-word g c κs within =
 pub returns-then-found-eq0-clause-answer : goal.returns-then-found-eq0-clause-answer
 returns-then-found-eq0-clause-answer g c =
     let inv = c.loop-step.invariant in
-    ends_at_gap inv.probes inv.seat.over (looks_at c.cell_at.ensures c.look-found.ensures.told) c.if-found-eq0.true
-    c.loop-step-test.true
+    ends_at_gap inv.probes inv.seat.over c.loop-step.seat.awake
+    (looks_at c.cell_at.ensures c.look-found.ensures.told) c.if-found-eq0.true c.loop-step-test.true
 
 pub returns-then-found-eq0-clause-shown : goal.returns-then-found-eq0-clause-shown
 returns-then-found-eq0-clause-shown g c shows =

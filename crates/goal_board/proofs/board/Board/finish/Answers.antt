@@ -1,8 +1,8 @@
 -- The answer's words are stored under the right, and then the head is closed.
-use Rattle.std.proofs.Common.{◌≡◌, ◌+◌, ◌*◌, ◌<◌, ◌≤◌, length, sym, ap, subst, ◌∙◌}
+use Rattle.std.proofs.Common.{◌≡◌, ◌*◌, ◌<◌, ◌≤◌, length, sym, ap, subst, ◌∙◌}
 use Rattle.board_rule.specs.Words.{head_word}
 use Rattle.board_rule.specs.May.{HasRight, MayClose}
-use Rattle.board_rule.specs.Seats.{Each, fresh_right, with_cost, with_node, cost_stored, node_stored, who_stored}
+use Rattle.board_rule.specs.Seats.{Each, fresh_right, with_cost, with_node, node_stored}
 use Rattle.board_rule.specs.Seats.{finished}
 use Rattle.board_rule.specs.declared.hands.Hands.{Hands}
 use Rattle.board_rule.proofs.Rights.{rights_at}
@@ -10,7 +10,7 @@ use Rattle.goal_board.specs.Seats.{hands}
 use Rattle.board_rule.specs.Waiters.{head_of}
 use Rattle.goal_board.specs.RightCalls.{finishes, Wakes}
 use Rattle.goal_board.proofs.Finishing.{held_fresh, with_first, with_second, cost_among, node_among, who_among}
-use Rattle.goal_board.proofs.Finishing.{has_right, left_over, once_held, open_before}
+use Rattle.goal_board.proofs.Finishing.{has_right, left_over, once_held, open_before, answer_stored}
 use Rattle.goal_board.proofs.OthersKept.{finish_keeps}
 use Rattle.goal_board.proofs.board.Board.finish.Goals as goal
 
@@ -51,10 +51,8 @@ close_head-head-requires-clause-may g c κs within =
     let p = c.args.right.place in
     let a = c.args.answer in
     let r = c.requires.right in
-    let stored : hands c.store_who.new.seat ≡ who_stored (node_stored (cost_stored v p a.cost) p a.node) p
-    (c.args.worker + 1) =
-    c.store_who.ensures.hands ∙ ap (λ (h : Hands _). who_stored h p (c.args.worker + 1)) (c.store_node.ensures.hands
-    ∙ ap (λ (h : Hands _). node_stored h p a.node) c.store_cost.ensures.hands) in
+    let stored = answer_stored v p c.args.worker a.cost a.node c.store_cost.ensures.hands c.store_node.ensures.hands
+    c.store_who.ensures.hands in
     subst (λ (h : Hands _). MayClose (g.R.GoalRules.meaning c.args.self.now.setup.rules)
     c.args.self.now.setup.capacity h p
     c.args.worker a.cost a.node) (sym stored) (record {
@@ -106,10 +104,8 @@ returns-clause-answer g c =
     let p = c.args.right.place in
     let a = c.args.answer in
     let told = c.close_head-head.ensures.told in
-    let stored : hands c.store_who.new.seat ≡ who_stored (node_stored (cost_stored v p a.cost) p a.node) p
-    (c.args.worker + 1) =
-    c.store_who.ensures.hands ∙ ap (λ (h : Hands _). who_stored h p (c.args.worker + 1)) (c.store_node.ensures.hands
-    ∙ ap (λ (h : Hands _). node_stored h p a.node) c.store_cost.ensures.hands) in
+    let stored = answer_stored v p c.args.worker a.cost a.node c.store_cost.ensures.hands c.store_node.ensures.hands
+    c.store_who.ensures.hands in
     let few = once_held g.R.GoalRules.meaning c.args.self.now.setup.rules c.args.self.now.setup.capacity
     (hands c.store_who.new.seat) (head_word p) c.close_head-head.result p
     c.store_who.ensures.seat.over told.leaves.moment c.requires.right.near in

@@ -23,8 +23,7 @@ pub invariant_of-seat : goal.invariant_of-seat
 invariant_of-seat g c =
     let s = c.args.seat.now in
     let told = c.compare_exchange.ensures.2 c.args.place c.run_at.ensures in
-    let after = awake_either_way s told.slots told.hands.hit told.hands.miss s.awake s.awake in
-    record { bare = after.bare; awake = after.awake }
+    assumption (awake_either_way s told.slots told.hands.hit told.hands.miss s.awake s.awake)
 
 pub returns-clause-told : goal.returns-clause-told
 returns-clause-told g c = (c.compare_exchange.ensures.2 c.args.place c.run_at.ensures).hands
@@ -36,4 +35,4 @@ returns-clause-seat g c =
     seat_tried (c.compare_exchange.ensures.0 ∙ c.requires.seat.same_table) (returns-clause-told g c)
     (over_beside g.R.GoalRules.meaning _ _ _ _ (run_word c.args.place) 0 refl refl refl (λ p e. omega arith)
     (all_changed _ _ _ _ over.all) over)
-    (record { no_wait = free.no_wait; no_walk = free.no_walk }) over free
+    (assumption free) over free

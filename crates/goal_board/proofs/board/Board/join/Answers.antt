@@ -44,5 +44,5 @@ returns-clause-seat g c =
           (over_joined meaning b.setup.rules b.setup.capacity s.me.0 c.args.other.seat.me.0 c.requires.seats.0.over
           c.requires.seats.1.over);
       free = subst (λ (m : Sat _). IsFree m.0) (sym told.2)
-          (record { no_wait = c.requires.seats.0.free.no_wait; no_walk = c.requires.seats.0.free.no_walk });
+          (assumption c.requires.seats.0.free);
     }

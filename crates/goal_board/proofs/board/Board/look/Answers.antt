@@ -16,8 +16,7 @@ load-requires g c = (
 pub invariant_of-seat : goal.invariant_of-seat
 invariant_of-seat g c =
     let told = c.load.ensures.2 in
-    let after = still_awake c.args.seat.now told.slots told.hands.hands_are c.args.seat.now.awake in
-    record { bare = after.bare; awake = after.awake }
+    assumption (still_awake c.args.seat.now told.slots told.hands.hands_are c.args.seat.now.awake)
 
 pub returns-clause-told : goal.returns-clause-told
 returns-clause-told g c = c.load.ensures.2.hands
@@ -32,5 +31,5 @@ returns-clause-seat g c =
       same_table = c.load.ensures.0 ∙ c.requires.seat.same_table;
       over = subst (AreHandsOver g.R.GoalRules.meaning b.setup.rules b.setup.capacity) (sym told.hands_are)
           (over_looked g.R.GoalRules.meaning _ _ _ _ _ over told.moment);
-      free = subst IsFree (sym told.hands_are) (record { no_wait = free.no_wait; no_walk = free.no_walk });
+      free = subst IsFree (sym told.hands_are) (assumption free);
     }

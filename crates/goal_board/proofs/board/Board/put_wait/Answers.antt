@@ -28,8 +28,7 @@ invariant_of-seat g c =
     let s = c.args.seat.now in
     let may = c.requires.may in
     let told = c.compare_exchange.ensures.2 (the_wait (hands s)) may.is may.seen in
-    let after = awake_either_way s told.slots told.hands.hit told.hands.miss s.awake s.awake in
-    record { bare = after.bare; awake = after.awake }
+    assumption (awake_either_way s told.slots told.hands.hit told.hands.miss s.awake s.awake)
 
 pub returns-clause-told : goal.returns-clause-told
 returns-clause-told g c =

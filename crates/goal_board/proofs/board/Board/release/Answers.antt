@@ -19,8 +19,7 @@ fetch_and-requires g c =
 pub invariant_of-seat : goal.invariant_of-seat
 invariant_of-seat g c =
     let told = c.fetch_and.ensures.2 c.args.place c.run_at.ensures in
-    let after = still_awake c.args.seat.now told.slots told.hands.hands_are c.args.seat.now.awake in
-    record { bare = after.bare; awake = after.awake }
+    assumption (still_awake c.args.seat.now told.slots told.hands.hands_are c.args.seat.now.awake)
 
 pub returns-clause-told : goal.returns-clause-told
 returns-clause-told g c = (c.fetch_and.ensures.2 c.args.place c.run_at.ensures).hands
@@ -31,4 +30,4 @@ returns-clause-seat g c =
     seat_beside (c.fetch_and.ensures.0 ∙ c.requires.seat.same_table) (returns-clause-told g c).hands_are refl refl refl
     (λ p e. omega arith)
     (all_changed _ _ _ _ c.requires.seat.over.all)
-    (record { no_wait = free.no_wait; no_walk = free.no_walk }) c.requires.seat.over
+    (assumption free) c.requires.seat.over

@@ -20,8 +20,7 @@ load-requires g c =
 pub invariant_of-seat : goal.invariant_of-seat
 invariant_of-seat g c =
     let told = c.load.ensures.2 (the_wait (hands c.args.seat.now)) c.args.child c.requires.may.is c.head_at.ensures in
-    let after = still_awake c.args.seat.now told.slots told.hands.hands_are c.args.seat.now.awake in
-    record { bare = after.bare; awake = after.awake }
+    assumption (still_awake c.args.seat.now told.slots told.hands.hands_are c.args.seat.now.awake)
 
 pub returns-clause-told : goal.returns-clause-told
 returns-clause-told g c = (c.load.ensures.2 (the_wait (hands c.args.seat.now)) c.args.child c.requires.may.is

@@ -19,8 +19,7 @@ store-requires g c =
 pub invariant_of-seat : goal.invariant_of-seat
 invariant_of-seat g c =
     let told = c.store.ensures.2 (the_wait (hands c.args.seat.now)) c.args.head c.requires.may.is c.requires.may.seen in
-    let after = still_awake c.args.seat.now told.slots told.hands c.args.seat.now.awake in
-    record { bare = after.bare; awake = after.awake }
+    assumption (still_awake c.args.seat.now told.slots told.hands c.args.seat.now.awake)
 
 pub returns-clause-hands : goal.returns-clause-hands
 returns-clause-hands g c = (c.store.ensures.2 (the_wait (hands c.args.seat.now)) c.args.head c.requires.may.is

@@ -16,8 +16,7 @@ store-requires g c =
 pub invariant_of-seat : goal.invariant_of-seat
 invariant_of-seat g c =
     let told = c.store.ensures.2 c.args.place c.node_at.ensures in
-    let after = still_awake c.args.seat.now told.slots told.hands c.args.seat.now.awake in
-    record { bare = after.bare; awake = after.awake }
+    assumption (still_awake c.args.seat.now told.slots told.hands c.args.seat.now.awake)
 
 pub returns-clause-hands : goal.returns-clause-hands
 returns-clause-hands g c = (c.store.ensures.2 c.args.place c.node_at.ensures).hands
