@@ -1,7 +1,7 @@
 -- How the words that a seat keeps while it is alone change, where one of them does.
 use Rattle.std.proofs.Common.{◌≡◌, ℕ, ◌%◌, ◌^◌, ◌<◌, ◌≤◌, ◌≢◌, nat_le, List, length, length-set, set, get_or-set_other}
 use Rattle.std.proofs.Common.{get_or-set_same, bit_or, Option, None, Some, sym, refl, ap}
-use Rattle.std.proofs.Common.{subst, ◌∙◌, ⊎_elim, arith, ◌⊎◌}
+use Rattle.std.proofs.Common.{subst, ◌∙◌, ⊎_elim, arith}
 use Rattle.std.specs.Int.{bit_at}
 use Rattle.std.proofs.lemmas.Bool.{cases_eq, cases_lt, lt-leb}
 use Rattle.std.proofs.lemmas.Nat.Bits.{bit_at-zero, same_from_bits, bit_at-pow_other, bit_at-pow_same, bit_at-lt}
