@@ -97,28 +97,10 @@ module _ {R : Type 0} where
           puts = second ++ h.puts;
           rights = with_waits place others h.rights;
         } in x) a.hands_are
-        ∙ ap (λ (looks : List (ℕ × ℕ)). let x : Hands R =
-        record v {
+        ∙ (λ i. record v {
           alone = b.words;
-          looks = looks;
-          puts = second ++ (first ++ v.puts);
-          rights = with_waits place others (with_waits place waits v.rights);
-        } in x)
-        (sym (append_assoc b.more a.more v.looks))
-        ∙ ap (λ (puts : List ℕ). let x : Hands R =
-        record v {
-          alone = b.words;
-          looks = (b.more ++ a.more) ++ v.looks;
-          puts = puts;
-          rights = with_waits place others (with_waits place waits v.rights);
-        } in x)
-        (sym (append_assoc second first v.puts))
-        ∙ ap (λ (rights : List Claimed). let x : Hands R =
-        record v {
-          alone = b.words;
-          looks = (b.more ++ a.more) ++ v.looks;
-          puts = (second ++ first) ++ v.puts;
-          rights = rights;
-        } in x)
-        (waits_twice place waits others v.rights);
+          looks = sym (append_assoc b.more a.more v.looks) i;
+          puts = sym (append_assoc second first v.puts) i;
+          rights = waits_twice place waits others v.rights i;
+        });
   }

@@ -1,5 +1,5 @@
 -- How the words that a seat keeps while it is alone go on, call by call, before the turn of a goal ends.
-use Rattle.std.proofs.Common.{◌≡◌, ◌≢◌, ℕ, ◌+◌, ◌*◌, ◌<◌, ◌≤◌, ◌==◌, ◌^◌, nat_le, List, [], ◌∷◌, ◌++◌, length}
+use Rattle.std.proofs.Common.{◌≡◌, ◌≢◌, ℕ, ◌+◌, ◌*◌, ◌<◌, ◌≤◌, ◌==◌, ◌^◌, nat_le, List, [], ◌∷◌, ◌++◌, length, ◌⊎◌}
 use Rattle.std.proofs.Common.{length-set, set, get_or-set_other, get_or-set_same, Option, eq-eqb, ne_eqb, refl, sym, ap}
 use Rattle.std.proofs.Common.{subst, ◌∙◌, ⊎_elim, inl, inr, arith}
 use Rattle.std.proofs.lemmas.Bool.{cases_lt}
@@ -22,6 +22,10 @@ pub each_second : {A : Type 0} → (P : A → Type 0) (l m : List A) → Each P 
 each_second P [] m h = h
 each_second P (x ∷ xs) m h = each_second P xs m h.1
 
+-- no wait more, or what is so
+no_more : {A : Type 0} → ((1 ≤ 0) ⊎ A) → A
+no_more either = ⊎_elim (λ e. absurd (omega arith)) (λ it. it) either
+
 -- no more waits, and the words are as they were
 pub goes_none : (place : ℕ) (words : Option (List ℕ)) → GoesOnAlone place 0 words words
 goes_none place words capacity before is long = (
@@ -32,8 +36,7 @@ goes_none place words capacity before is long = (
     heads = λ p. refl;
     others = λ p apart. refl;
     cells = inl (λ p near. refl);
-    waiting = λ has. ⊎_elim (λ (e : 1 ≤ 0). let no : ⊥ = omega (arith, e) in absurd no)
-        (λ (h : HasWait ((mem before).run place)). h) has;
+    waiting = no_more;
   },
 )
 
@@ -72,8 +75,7 @@ goes_put place at word capacity before long some was_empty =
       cells = ⊎_elim (λ (near : at < capacity). inr (fewer_empty capacity at word before near long some was_empty))
           (λ (far : capacity ≤ at). inl (λ p near. get_or-set_other before (cell_word at) (cell_word p) word 0
           (λ e. omega (arith, far, near)))) (cases_lt at capacity);
-      waiting = λ has. ⊎_elim (λ (e : 1 ≤ 0). let no : ⊥ = omega (arith, e) in absurd no)
-          (λ (h : HasWait ((mem before).run place)). subst HasWait (sym (runs place)) h) has;
+      waiting = λ has. subst HasWait (sym (runs place)) (no_more has);
     }
 
 module _ {R : Type 0} where
@@ -115,8 +117,7 @@ module _ {R : Type 0} where
           heads = s.2.heads;
           others = s.2.others;
           cells = inl (λ p near. s.2.cells p);
-          waiting = λ has. ⊎_elim (λ (e : 1 ≤ 0). let no : ⊥ = omega (arith, e) in absurd no)
-              (λ (h : HasWait ((mem before).run place)). subst HasWait (sym s.2.its_run) h) has;
+          waiting = λ has. subst HasWait (sym s.2.its_run) (no_more has);
         },
       )
 

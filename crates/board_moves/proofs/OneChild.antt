@@ -1,6 +1,6 @@
 -- What becomes of one child: it is looked at, put in, waited for, or found finished.
 use Rattle.std.proofs.Common.{◌≡◌, ◌≢◌, ℕ, ◌+◌, ◌<◌, List, [], ◌∷◌, refl, sym, ap, subst, inl, inr, arith, Option, Some}
-use Rattle.std.proofs.Common.{None}
+use Rattle.std.proofs.Common.{None, IsTrue}
 use Rattle.word_table.specs.declared.outcome.Inserted.{Inserted}
 use Rattle.word_table.specs.declared.outcome.Inserted.TheVariants.{Fresh, Known, Full}
 use Rattle.board_rule.specs.Meaning.{Meaning}
@@ -36,6 +36,15 @@ module _ {R : Type 0} (meaning : Meaning) (capacity : ℕ) where
 
   pub open_looks : (v : Hands R) (at : ℕ) (w : Hands R) → FindsOpen meaning capacity v at w → OnlyLooks v w
   open_looks v at w t = record { more = (head_word at, t.head) ∷ []; looks = t.looks; hands_are = t.hands_are }
+
+-- a child of a right's goal is a word other than 0
+pub child_is_some : {R : Type 0} {meaning : Meaning} {capacity : ℕ} {v : Hands R} {right : Right} (child : ℕ)
+    → ((word : ℕ) → meaning.entry word → word ≢ 0)
+    → ((goal child : ℕ) → meaning.entry goal → meaning.child goal child → meaning.entry child
+    × IsTrue (meaning.goal child))
+    → IsRightOf meaning capacity v right → meaning.child right.goal child → child ≢ 0
+child_is_some {right = right} child zero_enters_not children_enter its is =
+    zero_enters_not child (children_enter right.goal child its.enters is).0
 
 module _ {R : Type 0} (meaning : Meaning) (capacity : ℕ) (child : ℕ) (some_child : child ≢ 0) where
   -- the child stands in the cell

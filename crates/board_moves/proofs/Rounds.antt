@@ -33,6 +33,12 @@ pub proceeds_looked : {R : Type 0} → (Adds : ℕ → Type 0) (v : Hands R) (ri
     → Proceeds Adds v right w right
 proceeds_looked Adds v right w t = proceeds_moved Adds v right w [] tt (moves_looks right.place v w t)
 
+-- a turn that then only looks
+pub proceeds_on : {R : Type 0} {Adds : ℕ → Type 0} {v u w : Hands R} {start right : Right}
+    → Proceeds Adds v start u right → OnlyLooks u w → Proceeds Adds v start w right
+proceeds_on {Adds = Adds} {v} {u} {w} {start} {right} first looks =
+    proceeds_then Adds v start u right w right first (proceeds_looked Adds u right w looks)
+
 module _ {R : Type 0} (meaning : Meaning) (capacity : ℕ) (Has : ℕ → Type 0) (goal_of : ℕ → ℕ) (v : Hands R)
     (start : Right)
   where
@@ -65,8 +71,7 @@ module _ {R : Type 0} (meaning : Meaning) (capacity : ℕ) (Has : ℕ → Type 0
       awaiting_past w t unknown =
           let on : Later u.looks w.looks = later_seen t.more u w t.hands_are in
           record {
-            proceeds = proceeds_then (meaning.child start.goal) v start u right w right so_far.proceeds
-                (proceeds_looked (meaning.child start.goal) u right w (only_looks_none capacity u word w t));
+            proceeds = proceeds_on so_far.proceeds (only_looks_none capacity u word w t);
             found = so_far.found;
             so_far = found_past Has before so_far.found number so_far.so_far word next;
             shown = λ other at. still_shown meaning capacity u.looks w.looks on other (so_far.shown other at);
@@ -99,8 +104,7 @@ module _ {R : Type 0} (meaning : Meaning) (capacity : ℕ) (Has : ℕ → Type 0
         child_proceeds progress.Full fits t = absurd (fits refl)
 
         looked_up : Proceeds (meaning.child start.goal) v start x right
-        looked_up = proceeds_then (meaning.child start.goal) v start u right x right so_far.proceeds
-            (proceeds_looked (meaning.child start.goal) u right x (only_looks_at capacity u word at x found))
+        looked_up = proceeds_on so_far.proceeds (only_looks_at capacity u word at x found)
 
         -- the next word is in a cell, and its goal was awaited
         pub awaiting_next : (answer : Progress) → answer ≢ progress.Full

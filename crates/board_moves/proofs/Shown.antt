@@ -7,7 +7,7 @@ use Rattle.board_rule.specs.Looks.{finished}
 use Rattle.board_rule.specs.declared.hands.Hands.{Hands}
 use Rattle.board_rule.proofs.SeenByTwo.{looked_append}
 use Rattle.goal_board.specs.Calls.{seen, IsSeen}
-use Rattle.goal_board.proofs.Seen.{looked_earlier}
+use Rattle.goal_board.proofs.Seen.{looked_earlier, seen_none}
 use Rattle.board_moves.specs.Moves.{OnlyLooks}
 use Rattle.board_rule.specs.Records.{Claimed}
 use Rattle.board_rule.specs.Seats.{Among}
@@ -66,15 +66,7 @@ module _ {R : Type 0} where
 
   -- no call was made
   abbrev pub looks_none : (v : Hands R) → OnlyLooks v v
-  looks_none v = record {
-    more = [];
-    looks = record {
-      quiet = λ value at. absurd at;
-      alone = λ kept has word value at. absurd at;
-      stays = λ place word value saw is_word at. absurd at;
-    };
-    hands_are = refl;
-  }
+  looks_none v = record { more = []; looks = (seen_none v).looks; hands_are = refl }
 
   -- two calls, one after the other
   pub looks_then : (v u w : Hands R) → OnlyLooks v u → OnlyLooks u w → OnlyLooks v w
@@ -91,12 +83,8 @@ module _ {R : Type 0} where
 pub right_stays : {R : Type 0} → (meaning : Meaning) (capacity : ℕ) (v w : Hands R) (right : Right)
     → w.rights ≡ v.rights
     → Later v.looks w.looks → IsRightOf meaning capacity v right → IsRightOf meaning capacity w right
-right_stays meaning capacity v w right same on old = record {
-  near = old.near;
-  held = subst (λ (rights : List Claimed). Among rights (waiting_right right.place right.waits)) (sym same) old.held;
-  few = old.few;
-  stands = on (cell_word right.place) right.goal old.stands;
-  some_goal = old.some_goal;
-  is_goal = old.is_goal;
-  enters = old.enters;
-}
+right_stays meaning capacity v w right same on old =
+    let held = subst (λ (rights : List Claimed). Among rights (waiting_right right.place right.waits)) (sym same)
+    old.held in
+    let stands = on (cell_word right.place) right.goal old.stands in
+    assumption (old, held, stands)

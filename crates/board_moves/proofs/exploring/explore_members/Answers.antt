@@ -7,7 +7,7 @@ use Rattle.board_moves.specs.Moves.{Proceeds, RunsOut}
 use Rattle.board_moves.proofs.Shown.{later_looked, still_shown}
 use Rattle.board_moves.proofs.MovesLemmas.{proceeds_none, proceeds_then, later_proceeded, runs_out_then}
 use Rattle.board_moves.proofs.OneChild.{right_looked}
-use Rattle.board_moves.proofs.Rounds.{proceeds_looked, knows_none, knows_all, knows_more, settles_only_looks, no_waits}
+use Rattle.board_moves.proofs.Rounds.{knows_none, knows_all, knows_more, settles_only_looks, no_waits, proceeds_on}
 use Rattle.board_moves.proofs.exploring.explore_members.Goals as goal
 
 pub rounds-init : goal.rounds-init
@@ -37,13 +37,9 @@ returns-in-Yes-clause-works g c =
     let b = c.args.board.now in
     let group = c.args.group.now in
     let meaning = g.R.GoalRules.meaning b.setup.rules in
-    let Adds = meaning.child c.args.job.now.right.goal in
     let same : c.rounds.job.right.goal ≡ g.W.Group.goal group = c.rounds.invariant.proceeds.same_goal
     ∙ c.requires.goal in (
-      proceeds_then Adds (hands c.args.seat.now) c.args.job.now.right (hands c.rounds.seat) c.rounds.job.right
-          (hands c.settle.new.seat) c.rounds.job.right c.rounds.invariant.proceeds
-          (proceeds_looked Adds (hands c.rounds.seat) c.rounds.job.right (hands c.settle.new.seat)
-          c.in-Yes.ensures.settles.0),
+      proceeds_on c.rounds.invariant.proceeds c.in-Yes.ensures.settles.0,
       (
         c.rounds.invariant.no_wait,
         subst (ShowsPromise meaning b.setup.capacity (hands c.settle.new.seat).looks) (sym same)
@@ -73,9 +69,7 @@ returns-in-None-clause-works g c =
     c.settle.ensures.settles in
     runs_out_then Adds b.setup.capacity (hands c.args.seat.now) c.args.job.now.right (hands c.settle.new.seat)
     c.rounds.job.right (hands c.await_found.new.seat) c.await_found.new.job.right
-    (proceeds_then Adds (hands c.args.seat.now) c.args.job.now.right (hands c.rounds.seat) c.rounds.job.right
-    (hands c.settle.new.seat) c.rounds.job.right c.rounds.invariant.proceeds
-    (proceeds_looked Adds (hands c.rounds.seat) c.rounds.job.right (hands c.settle.new.seat) looks))
+    (proceeds_on c.rounds.invariant.proceeds looks)
     (subst (λ k. RunsOut (meaning.child k) (hands c.settle.new.seat) c.rounds.job.right b.setup.capacity
     (hands c.await_found.new.seat) c.await_found.new.job.right) c.rounds.invariant.proceeds.same_goal
     c.in-None.ensures.awaits)
@@ -91,9 +85,7 @@ returns-then-is_waiting-clause-works g c =
     c.settle.ensures.settles in (
       proceeds_then Adds (hands c.args.seat.now) c.args.job.now.right (hands c.settle.new.seat) c.rounds.job.right
           (hands c.await_found.new.seat) c.await_found.new.job.right
-          (proceeds_then Adds (hands c.args.seat.now) c.args.job.now.right (hands c.rounds.seat) c.rounds.job.right
-          (hands c.settle.new.seat) c.rounds.job.right c.rounds.invariant.proceeds
-          (proceeds_looked Adds (hands c.rounds.seat) c.rounds.job.right (hands c.settle.new.seat) looks))
+          (proceeds_on c.rounds.invariant.proceeds looks)
           (subst (λ k. Proceeds (meaning.child k) (hands c.settle.new.seat) c.rounds.job.right
           (hands c.await_found.new.seat) c.await_found.new.job.right) c.rounds.invariant.proceeds.same_goal
           c.in-Some.ensures.awaits.proceeds),
@@ -135,9 +127,7 @@ rounds-preserved g c =
       hints = c.await_found.ensures.hints ∙ c.rounds.invariant.hints;
       proceeds = proceeds_then Adds (hands c.args.seat.now) c.args.job.now.right (hands c.settle.new.seat)
           c.rounds.job.right (hands c.await_found.new.seat) c.await_found.new.job.right
-          (proceeds_then Adds (hands c.args.seat.now) c.args.job.now.right (hands c.rounds.seat) c.rounds.job.right
-          (hands c.settle.new.seat) c.rounds.job.right c.rounds.invariant.proceeds
-          (proceeds_looked Adds (hands c.rounds.seat) c.rounds.job.right (hands c.settle.new.seat) looks)) gone_on;
+          (proceeds_on c.rounds.invariant.proceeds looks) gone_on;
       origin = still_shown meaning b.setup.capacity (hands c.settle.new.seat).looks (hands c.await_found.new.seat).looks
           (later_proceeded Adds (hands c.settle.new.seat) c.rounds.job.right (hands c.await_found.new.seat)
           c.await_found.new.job.right gone_on) (g.W.Group.origin group)
