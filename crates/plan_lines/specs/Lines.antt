@@ -1,10 +1,8 @@
 -- The lines of a plan's text as the program makes them, byte by byte.
-use Rattle.std.specs.Prelude.{ℕ, ◌≡◌, List, ◌++◌, reverse}
+use Rattle.std.specs.Prelude.{ℕ, ◌≡◌, List}
 use Rattle.std.specs.List.{concat}
 use Rattle.query_core.specs.declared.query.Query.{Query}
 use Rattle.plan_space.specs.declared.nodes.NodeKind.{NodeKind}
-use Rattle.plan_space.specs.declared.seen.Kid.{Kid}
-use Rattle.plan_space.specs.Gives.{kid_of, kid_under}
 use Rattle.plan_space.specs.Nodes.{Tree}
 use Rattle.plan_tree.specs.Nodes.{IsNode}
 use Rattle.plan_tree.specs.Spells.{Spells}
@@ -12,8 +10,9 @@ use Rattle.plan_tree.specs.Seen.{kids_seen, HasGroup, HaveGroups}
 use Rattle.plan_tree.specs.declared.node.Node.{Node}
 use Rattle.plan_tree.specs.declared.plan.Plan.{Plan}
 use Rattle.plan_tree.specs.declared.seen.Kids.{Kids}
-use Rattle.plan_lines.specs.Text.{indent, node_line, plan_lines}
+use Rattle.plan_lines.specs.Gathered.{AddsNode, AddsPlan}
 use Rattle.plan_lines.specs.Groups.{HasGroups}
+use Rattle.plan_lines.specs.Text.{indent, node_line, plan_lines}
 
 -- the bytes are the node's line behind the spaces, over plans that are seen so, where the groups are the query's
 abbrev pub IsKindLine : Query → List ℕ → NodeKind → Kids → List ℕ → Type 0
@@ -29,23 +28,14 @@ IsNodeLine q spaces node below line = (kind : NodeKind) → IsNode node kind →
 abbrev pub IsLinesText : Query → Plan → List ℕ → Type 0
 IsLinesText q plan text = (tree : Tree) → Spells plan tree → HasGroups q tree → text ≡ concat (plan_lines q 0 tree)
 
--- ---- how they are gathered, from the last byte on
+-- ---- how they are gathered
 
--- this is seen of the plan, where it is a tree
-abbrev pub IsSeenOf : Query → Plan → Kid → Type 0
-IsSeenOf q plan seen = (tree : Tree) → Spells plan tree → seen ≡ kid_of q tree
+-- the node's line was added to the text behind the spaces
+abbrev pub AddsLine : Query → List ℕ → Node → Kids → List ℕ → List ℕ → Type 0
+AddsLine q spaces node below before after =
+    (depth : ℕ) → spaces ≡ indent depth → AddsNode q (node_line q depth) node below before after
 
--- this is seen of the node over these plans
-abbrev pub IsSeenOver : Query → Node → Kids → Kid → Type 0
-IsSeenOver q node below seen = (kind : NodeKind) → IsNode node kind → seen ≡ kid_under q kind (kids_seen below)
-
--- one line was added to the text, the last byte first, and it is the node's
-abbrev pub AddsNode : Query → List ℕ → Node → Kids → List ℕ → List ℕ → Type 0
-AddsNode q spaces node below before after =
-    (line : List ℕ) × (after ≡ before ++ reverse line) × IsNodeLine q spaces node below line
-
--- the lines of whichever tree the plan is were added to the text behind the spaces, the last byte first
-abbrev pub AddsPlan : Query → List ℕ → Plan → List ℕ → List ℕ → Type 0
-AddsPlan q spaces plan before after =
-    (depth : ℕ) (tree : Tree) → spaces ≡ indent depth → Spells plan tree → HasGroups q tree
-    → after ≡ before ++ reverse (concat (plan_lines q depth tree))
+-- the plan's lines were added to the text behind the spaces
+abbrev pub AddsLines : Query → List ℕ → Plan → List ℕ → List ℕ → Type 0
+AddsLines q spaces plan before after =
+    (depth : ℕ) → spaces ≡ indent depth → AddsPlan q (λ tree. concat (plan_lines q depth tree)) plan before after

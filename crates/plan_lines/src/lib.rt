@@ -5,5 +5,6 @@ mod lines;
 mod nodes;
 mod section;
 
+pub use lines::node_kind;
 pub use nodes::node_text;
 pub use section::{output_line, plan_text};

@@ -6,7 +6,8 @@ ghost use Rattle.request_props.specs.Numbered.{IsProps};
 ghost use Rattle.plan_space.specs.declared.nodes.NodeKind.{NodeKind as AnyNodeKind};
 ghost use Rattle.plan_tree.specs.Nodes.{IsNode};
 ghost use Rattle.plan_lines.specs.Text as texts;
-ghost use Rattle.plan_lines.specs.Lines.{AddsPlan, AddsNode, IsNodeLine, IsKindLine, IsSeenOf, IsSeenOver};
+ghost use Rattle.plan_lines.specs.Gathered.{IsKidOf, IsKidUnder};
+ghost use Rattle.plan_lines.specs.Lines.{AddsLine, AddsLines, IsKindLine, IsNodeLine};
 
 use crate::nodes::node_text;
 use plan_space::{Enforcer, Kid, NodeKind};
@@ -27,9 +28,9 @@ pub fn push_plan(
     text: &mut Vec<u8>,
 ) -> Result<Kid, AllocError>
     requires { IsProps query.now props.now }
-    ensures seen { IfOk result (IsSeenOf query.now plan.now) }
+    ensures kid { IfOk result (IsKidOf query.now plan.now) }
     ensures added { OnOk result
-        (AddsPlan query.now indent.now plan.now text.old.items text.new.items) }
+        (AddsLines query.now indent.now plan.now text.old.items text.new.items) }
 {
     match plan {
         Plan::Leaf(node) => { push_node(alloc, query, props, indent, *node, Kids::Nothing, text) }
@@ -66,19 +67,19 @@ fn push_node(
     text: &mut Vec<u8>,
 ) -> Result<Kid, AllocError>
     requires { IsProps query.now props.now }
-    ensures seen { IfOk result (IsSeenOver query.now node below) }
+    ensures kid { IfOk result (IsKidUnder query.now node below) }
     ensures added { OnOk result
-        (AddsNode query.now indent.now node below text.old.items text.new.items) }
+        (AddsLine query.now indent.now node below text.old.items text.new.items) }
 {
     let line = node_line(alloc, query, props, indent, node, below)?;
     let mut turned = line.as_bytes().to_vec(alloc)?;
     turned.as_mut_slice().reverse();
     text.extend_from_slice(turned.as_slice())?;
-    Ok(seen_above(query, props, kind_of(node), below))
+    Ok(seen_above(query, props, node_kind(node), below))
 }
 
-// What the node does; a number that no node has counts as that of a gather.
-fn kind_of(node: Node) -> NodeKind
+/// What the node does; a number that no node has counts as that of a gather.
+pub fn node_kind(node: Node) -> NodeKind
     ensures { (kind : AnyNodeKind) → IsNode node kind → result ≡ kind }
 {
     match node.kind() {

@@ -1,10 +1,12 @@
 -- The texts of tables and columns are cut and told apart in one way.
 use Rattle.std.proofs.Common.{◌≡◌, ℕ, ◌<◌, true, List, [], ◌∷◌, ◌++◌, length, map, Some}
-use Rattle.std.proofs.Common.{refl, sym, ◌∙◌, arith, bytes_eq, append_assoc}
+use Rattle.std.proofs.Common.{refl, sym, ap, ◌∙◌, arith, bytes_eq, append_assoc}
 use Rattle.std.specs.Prelude.{slice_get, nat_lt, codes, ◌==◌}
 use Rattle.std.specs.List.{list_all}
 use Rattle.std.proofs.lemmas.Bool.{and_parts, and_from, ltb-true, eq-eqb}
 use Rattle.std.proofs.lemmas.Bool.Decides.{nat_tests}
+use Rattle.std.specs.Option.{option_map}
+use Rattle.std.proofs.lemmas.Option.{slice_get-map}
 use Rattle.std.proofs.lemmas.Slice.Eq.{bytes_eq-Decides}
 use Rattle.orca_base.specs.Name.{begins_name, continues_name, has_name_form}
 use Rattle.query_core.specs.Items.{same_column}
@@ -14,7 +16,7 @@ use Rattle.query_core.specs.declared.table.QueryTable.{QueryTable}
 use Rattle.query_text.specs.Columns.{table_text, item_text}
 use Rattle.plan_reading.proofs.Fronts.{EndsFront}
 use Rattle.plan_reading.proofs.Cuts.{cut_once}
-use Rattle.plan_reading.proofs.Places.{there, passed_at, one_place, got_map}
+use Rattle.plan_reading.proofs.Places.{there, passed_at, one_place}
 
 -- ---- names
 
@@ -49,6 +51,10 @@ pub table_named : (q : Query) (t : ℕ) → t < length q.tables → has_name_for
 table_named q t below = let found = there q.tables t below in
     rw (table_text_is q t found.0 found.1) (alias_named q t found.0 found.1)
 
+alias_at : (q : Query) (t : ℕ) (table : QueryTable) → slice_get q.tables t ≡ Some table
+    → slice_get (map (λ z. z.alias) q.tables) t ≡ Some table.alias
+alias_at q t table got = slice_get-map (λ z. z.alias) q.tables t ∙ ap (option_map (λ z. z.alias)) got
+
 -- and that of one table
 pub table_one : (q : Query) (t u : ℕ) → t < length q.tables → u < length q.tables → table_text q t ≡ table_text q u → t ≡ u
 table_one q t u t_below u_below same =
@@ -56,7 +62,7 @@ table_one q t u t_below u_below same =
     let y = there q.tables u u_below in
     let alias : x.0.alias ≡ y.0.alias = sym (table_text_is q t x.0 x.1) ∙ same ∙ table_text_is q u y.0 y.1 in
     one_place bytes_eq (map (λ z. z.alias) q.tables) t u x.0.alias y.0.alias q.tables_valid.apart
-    (got_map (λ z. z.alias) q.tables t x.0 x.1) (got_map (λ z. z.alias) q.tables u y.0 y.1)
+    (alias_at q t x.0 x.1) (alias_at q u y.0 y.1)
     ((bytes_eq-Decides x.0.alias y.0.alias).1 alias) ((bytes_eq-Decides y.0.alias x.0.alias).1 (sym alias))
 
 -- ---- columns

@@ -3,6 +3,7 @@ use Rattle.std.proofs.Common.{◌≡◌, ℕ, ◌<◌, Bool, true, false, List, 
 use Rattle.std.specs.Prelude.{◌==◌, if◌then◌else◌, nat_lt, slice_get}
 use Rattle.std.specs.Option.{IsSome, option_map}
 use Rattle.std.proofs.lemmas.Bool.{eqb-true, ltb-true}
+use Rattle.std.proofs.lemmas.Option.{slice_get_within}
 use Rattle.query_core.specs.Crossing.{crossing_of, crossing_at}
 use Rattle.query_core.specs.Expressions.{table_in}
 use Rattle.query_core.specs.declared.predicate.Pred.{Pred}
@@ -32,7 +33,6 @@ use Rattle.plan_reading.specs.Named.{named_of, HasForm, IsOperatorOf, HasModeFor
 use Rattle.plan_reading.specs.Named.{HasHashForm, HasMergeForm, HasLoopForm, HasJoinForm, HasAggForm}
 use Rattle.plan_reading.specs.Operators.{unplaced}
 use Rattle.plan_reading.proofs.OperatorRows.{unplaced_first, unplaced_mode, group_table}
-use Rattle.plan_reading.proofs.Places.{below_got}
 use Rattle.plan_reading.proofs.SameNodes.{expr}
 
 only_zero : (line : Line) (n : ℕ) → IsSome (only_line line n) → n ≡ 0
@@ -53,7 +53,7 @@ module _ (q : Query) where
     where
       by_pred : (o : Option Pred) → slice_get q.preds n ≡ o → IsSome (option_map f (crossing_at q l r o)) → n < length q.preds
       by_pred None e some = absurd cc
-      by_pred (Some pred) e some = below_got q.preds n pred e
+      by_pred (Some pred) e some = slice_get_within q.preds n pred e
 
   only_form : (line : Line) (mode : Mode) → IsSome (single_line line mode) → HasOnlyForm mode
   only_form line (modes.Plain n) is = only_zero line n is
@@ -66,7 +66,7 @@ module _ (q : Query) where
     where
       by_dist : (o : Option GivenDist) → slice_get dists n ≡ o → IsSome (option_map f o) → n < length dists
       by_dist None e some = absurd cc
-      by_dist (Some dist) e some = below_got dists n dist e
+      by_dist (Some dist) e some = slice_get_within dists n dist e
 
   read_form : (g : KeyParts) (order : GivenOrder) (mode : Mode) → IsSome (table_line q g order mode)
       → HasReadForm q (table_in g) mode

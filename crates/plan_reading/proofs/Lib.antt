@@ -6,6 +6,7 @@ mod AggregateNames
 mod Sorted
 mod Joined
 mod Elements
+mod NamedColumns
 mod Lists
 mod SameNodes
 mod Marks
@@ -14,6 +15,8 @@ mod Behind
 mod Flush
 mod SmallModes
 mod ReadTexts
+mod OneRead
+mod OneMode
 mod Nodes
 mod OneTree
 mod BareWords

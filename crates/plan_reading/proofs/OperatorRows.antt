@@ -1,6 +1,7 @@
 -- What is said of each operator by name: no other file of proofs lists them.
 use Rattle.std.proofs.Common.{◌≡◌, ℕ, ◌<◌, ◌⊎◌, true, List, ◌++◌, length, refl, sym, ap, ◌∙◌, subst, arith, inl, inr}
 use Rattle.std.specs.List.{list_all, Contains}
+use Rattle.std.proofs.lemmas.Option.{slice_get_within}
 use Rattle.query_core.specs.Expressions.{implements, physical_fields, physical_children, table_in, HasPhysical}
 use Rattle.query_core.specs.Expressions.{HasIndex, IsCandidate, IsPacked}
 use Rattle.query_core.specs.Keys.{IsGroup, tables_of, top_of}
@@ -26,7 +27,6 @@ use Rattle.plan_reading.specs.Operators.{over_groups, unplaced, direct_operators
 use Rattle.plan_reading.specs.Reading.{is_bare, IsFlush}
 use Rattle.plan_reading.specs.Texts.{index_numbers}
 use Rattle.plan_reading.proofs.Marks.{kind_in, way_sort, way_kind, way_index}
-use Rattle.plan_reading.proofs.Places.{below_got}
 use Rattle.plan_reading.proofs.SameNodes.{numbered, same_node, join_over, kid_over}
 
 -- ---- names
@@ -191,7 +191,7 @@ pub index_known : (q : Query) → ((e : ExprParts) → IsCandidate q e → IsPac
     → (t < length q.tables) × (i < index_numbers)
 index_known q packed t i has =
     let e : ExprParts = record { group = groups.Get t; operator = operators.Physical (physical.IndexScan i) } in
-    let below = below_got q.tables t has.0 has.1 in
+    let below = slice_get_within q.tables t has.0 has.1 in
     let is = packed e (record { known = below; shape = ((t, refl), has) }) in
     (below, is.index)
 

@@ -1,5 +1,5 @@
 -- What stands at the places of a list in which nothing comes twice.
-use Rattle.std.proofs.Common.{◌≡◌, ℕ, zero, suc, ◌<◌, Bool, true, false, not, List, [], ◌∷◌, length, map, Some}
+use Rattle.std.proofs.Common.{◌≡◌, ℕ, zero, suc, ◌<◌, Bool, true, false, not, List, [], ◌∷◌, length, Some}
 use Rattle.std.proofs.Common.{refl, sym, ap, ◌∙◌, subst, arith}
 use Rattle.std.specs.Prelude.{slice_get}
 use Rattle.std.specs.List.{list_all, list_any}
@@ -47,16 +47,3 @@ module _ {X : Type 0} (same : X → X → Bool) where
       absurd cc
   one_place (z ∷ zs) (suc m) (suc n) x y differ first second there_and back =
       ap suc (one_place zs m n x y (and_parts (not (list_any (same z) zs)) (all_differ same zs) differ).1 first second there_and back)
-
--- what f makes of an element stands at its place
-pub got_map : {X Y : Type 0} (f : X → Y) (xs : List X) (n : ℕ) (x : X) → slice_get xs n ≡ Some x
-    → slice_get (map f xs) n ≡ Some (f x)
-got_map f [] n x got = absurd cc
-got_map f (y ∷ ys) zero x got = let is : y ≡ x = cc in ap (λ z. Some (f z)) is
-got_map f (y ∷ ys) (suc n) x got = got_map f ys n x got
-
--- an element stands below the length
-pub below_got : {X : Type 0} (xs : List X) (n : ℕ) (x : X) → slice_get xs n ≡ Some x → n < length xs
-below_got [] n x got = absurd cc
-below_got (y ∷ xs) zero x got = omega arith
-below_got (y ∷ xs) (suc n) x got = let rest = below_got xs n x got in omega arith

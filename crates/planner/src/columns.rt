@@ -3,7 +3,7 @@
 
 ghost use Rattle.std.specs.Prelude.{◌≡◌, IfOk, map};
 ghost use Rattle.request_props.specs.Found.{element_of, elements_of};
-ghost use Rattle.request_props.specs.Numbered.{IsProps, list_of, order_of};
+ghost use Rattle.request_props.specs.Numbered.{IsProps};
 ghost use Rattle.request_props.specs.Satisfied.{index_columns as the_index_columns};
 ghost use Rattle.query_text.specs.Columns.{computed_text as the_computed_text};
 ghost use Rattle.planner.specs.Columns.{columns_of as the_columns_of, native_columns as the_native_columns};
@@ -14,7 +14,7 @@ use crate::node::PlanColumn;
 use orca_base::{List, Text};
 use plan_space::{Enforcer, NodeKind};
 use query_core::{Access, KeyParts, Logical, OrderKey, PhysicalExpr, Query, table_in};
-use query_text::computed_text;
+use query_text::{computed_text, list_columns, order_keys};
 use request_props::Props;
 use std::alloc::{AllocError, Global};
 
@@ -84,8 +84,8 @@ fn enforcer_columns(
     match enforcer {
         Enforcer::Gather => Ok(List::new(alloc)),
         Enforcer::Broadcast => Ok(List::new(alloc)),
-        Enforcer::Sort(order) => sorted(alloc, query, keys_of(query, props, order)),
-        Enforcer::GatherMerge(order) => sorted(alloc, query, keys_of(query, props, order)),
+        Enforcer::Sort(order) => sorted(alloc, query, order_keys(query, props, order)),
+        Enforcer::GatherMerge(order) => sorted(alloc, query, order_keys(query, props, order)),
         Enforcer::Redistribute(list) => named(alloc, query, list_columns(query, props, list)),
     }
 }
@@ -99,29 +99,6 @@ fn index_columns(query: &Query, table: u32, index: u32) -> &[u32]
     };
     match table.indexes.as_slice().get(index as usize) {
         Some(columns) => columns.as_slice(),
-        None => &[],
-    }
-}
-
-// What the order of this number sorts by; nothing where there is none.
-fn keys_of<'a>(query: &Query, props: &'a Props, number: u32) -> &'a [OrderKey]
-    requires { IsProps query.now props.now }
-    ensures { elements_of result.now ≡ order_of query.now number }
-{
-    if props.has_order(query, number) {
-        props.order(number)
-    } else {
-        &[]
-    }
-}
-
-// The columns of the hashed list of this number; none where there is no list.
-fn list_columns<'a>(query: &Query, props: &'a Props, number: u32) -> &'a [u32]
-    requires { IsProps query.now props.now }
-    ensures { result.now ≡ list_of query.now number }
-{
-    match props.hashed.as_slice().get(number as usize) {
-        Some(list) => list.as_slice(),
         None => &[],
     }
 }

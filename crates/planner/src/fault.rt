@@ -36,8 +36,12 @@ impl From<SqlFault> for PlanFault {
 
     fn from(fault: SqlFault) -> PlanFault {
         match fault {
+            SqlFault::TooLong => PlanFault::Syntax(fault),
+            SqlFault::NotAscii { .. } => PlanFault::Syntax(fault),
+            SqlFault::Token { .. } => PlanFault::Syntax(fault),
+            SqlFault::Grammar { .. } => PlanFault::Syntax(fault),
+            SqlFault::TooMany { .. } => PlanFault::Syntax(fault),
             SqlFault::Memory => PlanFault::Memory,
-            _ => PlanFault::Syntax(fault),
         }
     }
 }
@@ -47,8 +51,13 @@ impl From<BindFault> for PlanFault {
 
     fn from(fault: BindFault) -> PlanFault {
         match fault {
+            BindFault::UnknownTable { .. } => PlanFault::Binding(fault),
+            BindFault::TwiceAlias { .. } => PlanFault::Binding(fault),
+            BindFault::UnknownColumn { .. } => PlanFault::Binding(fault),
+            BindFault::Ambiguous { .. } => PlanFault::Binding(fault),
+            BindFault::NotGrouped { .. } => PlanFault::Binding(fault),
+            BindFault::TooManyItems { .. } => PlanFault::Binding(fault),
             BindFault::Memory => PlanFault::Memory,
-            _ => PlanFault::Binding(fault),
         }
     }
 }
@@ -58,8 +67,9 @@ impl From<PropsFault> for PlanFault {
 
     fn from(fault: PropsFault) -> PlanFault {
         match fault {
+            PropsFault::TooManyLists { .. } => PlanFault::Limits(fault),
+            PropsFault::TooManyOrders { .. } => PlanFault::Limits(fault),
             PropsFault::Memory => PlanFault::Memory,
-            _ => PlanFault::Limits(fault),
         }
     }
 }

@@ -1,22 +1,23 @@
 //! The nodes of a plan as a list.
 #![tactic(auto)]
 
-ghost use Rattle.std.specs.Prelude.{◌≡◌, ◌≤◌, IfOk, OnOk, Some, length};
+ghost use Rattle.std.specs.Prelude.{◌≡◌, suc, IfOk, OnOk, length};
 ghost use Rattle.request_props.specs.Numbered.{IsProps};
 ghost use Rattle.xform_rules.specs.Closure.{IsMember};
 ghost use Rattle.plan_space.specs.Nodes.{Tree};
 ghost use Rattle.plan_space.specs.Valid.{IsValid};
-ghost use Rattle.plan_tree.specs.Seen.{kids_seen, root_node};
+ghost use Rattle.plan_tree.specs.Seen.{kids_seen};
 ghost use Rattle.plan_tree.specs.Spells.{Spells};
+ghost use Rattle.plan_lines.specs.Gathered.{IsKidOf, IsKidUnder};
 ghost use Rattle.planner.specs.Nodes.{nodes_of as the_nodes_of};
-ghost use Rattle.planner.specs.Adding.{AddsPlan, IsNodeOver, IsRootOf};
+ghost use Rattle.planner.specs.Adding.{AddsNodes, AddsOneNode, IsNodeOver};
 
 use crate::columns::columns_of;
 use crate::node::PlanNode;
 use orca_base::{List, Text};
-use plan_lines::node_text;
-use plan_space::NodeKind;
-use plan_tree::{Kids, Plan, cost_above_any, rows_above, seen_below};
+use plan_lines::{node_kind, node_text};
+use plan_space::{Kid, NodeKind};
+use plan_tree::{Kids, Node, Plan, cost_above_any, rows_above, seen_above};
 use query_core::Query;
 use request_props::Props;
 use std::alloc::{AllocError, Global};
@@ -37,11 +38,12 @@ pub fn nodes_of(
     members_are_candidates();
     let mut nodes = Vec::new(alloc);
     push_plan(alloc, query, props, 0, plan, &mut nodes)?;
+    nodes.as_mut_slice().reverse();
     Ok(List::of(nodes))
 }
 
-// Adds the nodes of a plan whose root stands at this depth, the root before those below; none of a plan whose root has
-// a number that no node has.
+// Adds the nodes of a plan whose root stands at this depth, the last one first: a node is made of what is seen of the
+// plans below it. Tells what is seen of the plan.
 fn push_plan(
     alloc: Global,
     query: &Query,
@@ -49,52 +51,61 @@ fn push_plan(
     depth: usize,
     plan: &Plan,
     nodes: &mut Vec<PlanNode>,
-) -> Result<(), AllocError>
-    requires props { IsProps query.now props.now }
-    requires depth { depth ≤ length nodes.old.items }
-    ensures adds { OnOk result (AddsPlan query.now depth plan.now nodes.old.items nodes.new.items) }
-    ensures grows { OnOk result (length nodes.old.items ≤ length nodes.new.items) }
+) -> Result<Kid, AllocError>
+    requires { IsProps query.now props.now }
+    ensures kid { IfOk result (IsKidOf query.now plan.now) }
+    ensures added { OnOk result (AddsNodes query.now depth plan.now nodes.old.items nodes.new.items) }
 {
-    let Some(root) = root_of(alloc, query, props, depth, plan)? else {
-        return Ok(());
-    };
-    nodes.push(root)?;
     match plan {
-        Plan::Leaf(_) => Ok(()),
-        Plan::Over(_, kid) => push_plan(alloc, query, props, depth + 1, kid, nodes),
-        Plan::Two(_, left, right) => {
-            push_plan(alloc, query, props, depth + 1, left, nodes)?;
-            push_plan(alloc, query, props, depth + 1, right, nodes)
+        Plan::Leaf(node) => push_node(alloc, query, props, depth, *node, Kids::Nothing, nodes),
+        Plan::Over(node, kid) => {
+            let deeper = depth_below(depth)?;
+            let only = push_plan(alloc, query, props, deeper, kid, nodes)?;
+            push_node(alloc, query, props, depth, *node, Kids::One(only), nodes)
+        }
+        Plan::Two(node, left, right) => {
+            let deeper = depth_below(depth)?;
+            let second = push_plan(alloc, query, props, deeper, right, nodes)?;
+            let first = push_plan(alloc, query, props, deeper, left, nodes)?;
+            push_node(
+                alloc,
+                query,
+                props,
+                depth,
+                *node,
+                Kids::Two(first, second),
+                nodes,
+            )
         }
     }
 }
 
-// The node at the root of a plan; nothing for a number that no node has.
-fn root_of(
+// How many nodes stand above those below a node at this depth. No memory holds a plan with too many levels for a
+// number.
+fn depth_below(depth: usize) -> Result<usize, AllocError>
+    ensures { IfOk result (λ below. below ≡ suc depth) }
+{
+    depth.checked_add(1).ok_or(AllocError)
+}
+
+// Adds the node, and tells what is seen of a plan with this root.
+fn push_node(
     alloc: Global,
     query: &Query,
     props: &Props,
     depth: usize,
-    plan: &Plan,
-) -> Result<Option<PlanNode>, AllocError>
+    node: Node,
+    below: Kids,
+    nodes: &mut Vec<PlanNode>,
+) -> Result<Kid, AllocError>
     requires { IsProps query.now props.now }
-    ensures { IfOk result (IsRootOf query.now depth plan.now) }
+    ensures kid { IfOk result (IsKidUnder query.now node below) }
+    ensures added { OnOk result
+        (AddsOneNode query.now depth node below nodes.old.items nodes.new.items) }
 {
-    let Some(kind) = root_kind(plan) else {
-        return Ok(None);
-    };
-    let below = seen_below(query, props, plan);
-    Ok(Some(node_over(alloc, query, props, depth, kind, below)?))
-}
-
-fn root_kind(plan: &Plan) -> Option<NodeKind>
-    ensures { (tree : Tree) → Spells plan.now tree → result ≡ Some (root_node tree) }
-{
-    match plan {
-        Plan::Leaf(node) => node.kind(),
-        Plan::Over(node, _) => node.kind(),
-        Plan::Two(node, _, _) => node.kind(),
-    }
+    let kind = node_kind(node);
+    nodes.push(node_over(alloc, query, props, depth, kind, below)?)?;
+    Ok(seen_above(query, props, kind, below))
 }
 
 fn node_over(

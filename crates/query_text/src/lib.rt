@@ -6,5 +6,5 @@ mod lists;
 mod names;
 
 pub use columns::{computed_text, push_computed, table_text};
-pub use lists::{list_text, order_text, push_list, push_order};
+pub use lists::{list_columns, list_text, order_keys, order_text, push_list, push_order};
 pub use names::name_of_operator;

@@ -55,7 +55,7 @@ pub fn push_order(
     ensures ok { OnOk result (AddsText (string_bytes text.old)
         (texts.order_text query.now (order_of query.now number)) (string_bytes text.new)) }
 {
-    push_keys(query, keys_of(query, props, number), text)
+    push_keys(query, order_keys(query, props, number), text)
 }
 
 /// Adds the text of the hashed list of this number.
@@ -69,11 +69,11 @@ pub fn push_list(
     ensures ok { OnOk result (AddsText (string_bytes text.old)
         (texts.list_text query.now (list_of query.now number)) (string_bytes text.new)) }
 {
-    push_columns(query, columns_of(query, props, number), text)
+    push_columns(query, list_columns(query, props, number), text)
 }
 
-// What the order of this number sorts by; nothing where there is none.
-fn keys_of<'a>(query: &Query, props: &'a Props, number: u32) -> &'a [OrderKey]
+/// What the order of this number sorts by; nothing where there is none.
+pub fn order_keys<'a>(query: &Query, props: &'a Props, number: u32) -> &'a [OrderKey]
     requires { IsProps query.now props.now }
     ensures { elements_of result.now ≡ order_of query.now number }
 {
@@ -84,8 +84,8 @@ fn keys_of<'a>(query: &Query, props: &'a Props, number: u32) -> &'a [OrderKey]
     }
 }
 
-// The columns of the hashed list of this number; none where there is no list.
-fn columns_of<'a>(query: &Query, props: &'a Props, number: u32) -> &'a [u32]
+/// The columns of the hashed list of this number; none where there is no list.
+pub fn list_columns<'a>(query: &Query, props: &'a Props, number: u32) -> &'a [u32]
     requires { IsProps query.now props.now }
     ensures { result.now ≡ list_of query.now number }
 {

@@ -1,12 +1,14 @@
 mod Trees
 mod LineBlocks
+mod GrownKids
+mod InRange
 mod Steps
 mod FirstAt
 mod TreeFits
 mod PlanNodes
 mod Members
 mod OwnNumbers
-mod OwnFollowing
+mod OwnLines
 mod Exclusions
 mod OneOutcome
 mod Text

@@ -1,5 +1,6 @@
 -- A text has one outcome.
-use Rattle.std.proofs.Common.{◌≡◌, ◌≢◌, ℕ, List, Result, Ok, Err, refl, ap}
+use Rattle.std.proofs.Common.{◌≡◌, ◌≢◌, ◌<◌, ℕ, List, Result, Ok, Err, refl, ap, arith, inl, inr}
+use Rattle.std.proofs.lemmas.Bool.{cases_lt}
 use Rattle.query_core.specs.declared.query.Query.{Query}
 use Rattle.text_check.specs.Outcome.{IsGoodText, HasFault, IsOutcome}
 use Rattle.text_check.specs.declared.text_fault.TextFault.{TextFault}
@@ -11,119 +12,91 @@ use Rattle.text_check.proofs.Exclusions.{number_one, cost_one}
 use Rattle.text_check.proofs.Members.{valid_members}
 use Rattle.text_check.proofs.OwnNumbers.{own_numbers}
 
+-- the place of a fault in the order in which faults are told; want of memory has none
+abbrev place : TextFault → ℕ
+place faults.TooLong = 0
+place (faults.Form line) = 1
+place (faults.TooLarge nodes) = 2
+place (faults.Kids line) = 3
+place (faults.Member line) = 4
+place (faults.Needs line) = 5
+place faults.Request = 6
+place (faults.Number line) = 7
+place faults.Memory = 8
+
+has_place : (f : TextFault) → f ≢ faults.Memory → place f < 8
+has_place faults.TooLong other = omega arith
+has_place (faults.Form line) other = omega arith
+has_place (faults.TooLarge nodes) other = omega arith
+has_place (faults.Kids line) other = omega arith
+has_place (faults.Member line) other = omega arith
+has_place (faults.Needs line) other = omega arith
+has_place faults.Request other = omega arith
+has_place (faults.Number line) other = omega arith
+has_place faults.Memory other = absurd (other refl)
+
 module _ (q : Query) (laws : TextLaws q) (text : List ℕ) where
+  -- the text has no fault before another one of it
+  earlier : (a b : TextFault) → place a < place b → place b < 8 → HasFault q text a → HasFault q text b → ⊥
+  earlier faults.TooLong (faults.Form m) less told x y = long_not_short q laws text x y.short
+  earlier faults.TooLong (faults.TooLarge m) less told x y = long_not_short q laws text x y.has_lines.short
+  earlier faults.TooLong (faults.Kids m) less told x y = long_not_short q laws text x y.has_lines.short
+  earlier faults.TooLong (faults.Member m) less told x y = long_not_short q laws text x y.is_text.has_lines.short
+  earlier faults.TooLong (faults.Needs m) less told x y = long_not_short q laws text x y.is_text.has_lines.short
+  earlier faults.TooLong faults.Request less told x y = long_not_short q laws text x y.is_text.has_lines.short
+  earlier faults.TooLong (faults.Number m) less told x y = long_not_short q laws text x y.is_text.has_lines.short
+  earlier (faults.Form n) (faults.TooLarge m) less told x y = unformed_not_lines q laws text n x y.has_lines
+  earlier (faults.Form n) (faults.Kids m) less told x y = unformed_not_lines q laws text n x y.has_lines
+  earlier (faults.Form n) (faults.Member m) less told x y =
+      unformed_not_lines q laws text n x y.is_text.has_lines
+  earlier (faults.Form n) (faults.Needs m) less told x y = unformed_not_lines q laws text n x y.is_text.has_lines
+  earlier (faults.Form n) faults.Request less told x y = unformed_not_lines q laws text n x y.is_text.has_lines
+  earlier (faults.Form n) (faults.Number m) less told x y =
+      unformed_not_lines q laws text n x y.is_text.has_lines
+  earlier (faults.TooLarge n) (faults.Kids m) less told x y = large_not_few q laws text n x y.has_lines y.few
+  earlier (faults.TooLarge n) (faults.Member m) less told x y =
+      large_not_few q laws text n x y.is_text.has_lines y.is_text.few
+  earlier (faults.TooLarge n) (faults.Needs m) less told x y =
+      large_not_few q laws text n x y.is_text.has_lines y.is_text.few
+  earlier (faults.TooLarge n) faults.Request less told x y =
+      large_not_few q laws text n x y.is_text.has_lines y.is_text.few
+  earlier (faults.TooLarge n) (faults.Number m) less told x y =
+      large_not_few q laws text n x y.is_text.has_lines y.is_text.few
+  earlier (faults.Kids n) (faults.Member m) less told x y = misfit_not_tree q laws text n x y.is_text
+  earlier (faults.Kids n) (faults.Needs m) less told x y = misfit_not_tree q laws text n x y.is_text
+  earlier (faults.Kids n) faults.Request less told x y = misfit_not_tree q laws text n x y.is_text
+  earlier (faults.Kids n) (faults.Number m) less told x y = misfit_not_tree q laws text n x y.is_text
+  earlier (faults.Member n) (faults.Needs m) less told x y =
+      outsider_not_member q laws text n x y.is_text y.members
+  earlier (faults.Member n) faults.Request less told x y =
+      outsider_not_member q laws text n x y.is_text (valid_members q y.tree y.valid)
+  earlier (faults.Member n) (faults.Number m) less told x y =
+      outsider_not_member q laws text n x y.is_text (valid_members q y.tree y.serves.valid)
+  earlier (faults.Needs n) faults.Request less told x y = unfit_not_valid q laws text n x y.is_text y.valid
+  earlier (faults.Needs n) (faults.Number m) less told x y =
+      unfit_not_valid q laws text n x y.is_text y.serves.valid
+  earlier faults.Request (faults.Number m) less told x y = unmet_not_served q laws text x y.is_text y.serves
+  earlier a b less told x y = absurd (omega (arith, less, told))
+
+  same_place : (a b : TextFault) → place a ≡ place b → place b < 8 → HasFault q text a → HasFault q text b → a ≡ b
+  same_place faults.TooLong faults.TooLong same told x y = refl
+  same_place (faults.Form n) (faults.Form m) same told x y = ap faults.Form (unformed_one q laws text n m x y)
+  same_place (faults.TooLarge n) (faults.TooLarge m) same told x y = ap faults.TooLarge (large_one q laws text n m x y)
+  same_place (faults.Kids n) (faults.Kids m) same told x y = ap faults.Kids (misfit_one q laws text n m x y)
+  same_place (faults.Member n) (faults.Member m) same told x y = ap faults.Member (outsider_one q laws text n m x y)
+  same_place (faults.Needs n) (faults.Needs m) same told x y = ap faults.Needs (unfit_one q laws text n m x y)
+  same_place faults.Request faults.Request same told x y = refl
+  same_place (faults.Number n) (faults.Number m) same told x y = ap faults.Number (number_one q laws text n m x y)
+  same_place a b same told x y = absurd (omega (arith, same, told))
+
   one_fault : (a b : TextFault) → a ≢ faults.Memory → b ≢ faults.Memory → HasFault q text a → HasFault q text b → a ≡ b
-  one_fault faults.TooLong faults.TooLong in_a in_b x y = refl
-  one_fault faults.TooLong (faults.Form m) in_a in_b x y = absurd (long_not_short q laws text x y.short)
-  one_fault faults.TooLong (faults.TooLarge m) in_a in_b x y = absurd (long_not_short q laws text x y.has_lines.short)
-  one_fault faults.TooLong (faults.Kids m) in_a in_b x y = absurd (long_not_short q laws text x y.has_lines.short)
-  one_fault faults.TooLong (faults.Member m) in_a in_b x y =
-      absurd (long_not_short q laws text x y.is_text.has_lines.short)
-  one_fault faults.TooLong (faults.Needs m) in_a in_b x y =
-      absurd (long_not_short q laws text x y.is_text.has_lines.short)
-  one_fault faults.TooLong faults.Request in_a in_b x y =
-      absurd (long_not_short q laws text x y.is_text.has_lines.short)
-  one_fault faults.TooLong (faults.Number m) in_a in_b x y =
-      absurd (long_not_short q laws text x y.is_text.has_lines.short)
-  one_fault faults.TooLong faults.Memory in_a in_b x y = absurd (in_b refl)
-  one_fault (faults.Form n) faults.TooLong in_a in_b x y = absurd (long_not_short q laws text y x.short)
-  one_fault (faults.Form n) (faults.Form m) in_a in_b x y = ap faults.Form (unformed_one q laws text n m x y)
-  one_fault (faults.Form n) (faults.TooLarge m) in_a in_b x y =
-      absurd (unformed_not_lines q laws text n x y.has_lines)
-  one_fault (faults.Form n) (faults.Kids m) in_a in_b x y = absurd (unformed_not_lines q laws text n x y.has_lines)
-  one_fault (faults.Form n) (faults.Member m) in_a in_b x y =
-      absurd (unformed_not_lines q laws text n x y.is_text.has_lines)
-  one_fault (faults.Form n) (faults.Needs m) in_a in_b x y =
-      absurd (unformed_not_lines q laws text n x y.is_text.has_lines)
-  one_fault (faults.Form n) faults.Request in_a in_b x y =
-      absurd (unformed_not_lines q laws text n x y.is_text.has_lines)
-  one_fault (faults.Form n) (faults.Number m) in_a in_b x y =
-      absurd (unformed_not_lines q laws text n x y.is_text.has_lines)
-  one_fault (faults.Form n) faults.Memory in_a in_b x y = absurd (in_b refl)
-  one_fault (faults.TooLarge n) faults.TooLong in_a in_b x y = absurd (long_not_short q laws text y x.has_lines.short)
-  one_fault (faults.TooLarge n) (faults.Form m) in_a in_b x y =
-      absurd (unformed_not_lines q laws text m y x.has_lines)
-  one_fault (faults.TooLarge n) (faults.TooLarge m) in_a in_b x y = ap faults.TooLarge (large_one q laws text n m x y)
-  one_fault (faults.TooLarge n) (faults.Kids m) in_a in_b x y =
-      absurd (large_not_few q laws text n x y.has_lines y.few)
-  one_fault (faults.TooLarge n) (faults.Member m) in_a in_b x y =
-      absurd (large_not_few q laws text n x y.is_text.has_lines y.is_text.few)
-  one_fault (faults.TooLarge n) (faults.Needs m) in_a in_b x y =
-      absurd (large_not_few q laws text n x y.is_text.has_lines y.is_text.few)
-  one_fault (faults.TooLarge n) faults.Request in_a in_b x y =
-      absurd (large_not_few q laws text n x y.is_text.has_lines y.is_text.few)
-  one_fault (faults.TooLarge n) (faults.Number m) in_a in_b x y =
-      absurd (large_not_few q laws text n x y.is_text.has_lines y.is_text.few)
-  one_fault (faults.TooLarge n) faults.Memory in_a in_b x y = absurd (in_b refl)
-  one_fault (faults.Kids n) faults.TooLong in_a in_b x y = absurd (long_not_short q laws text y x.has_lines.short)
-  one_fault (faults.Kids n) (faults.Form m) in_a in_b x y = absurd (unformed_not_lines q laws text m y x.has_lines)
-  one_fault (faults.Kids n) (faults.TooLarge m) in_a in_b x y =
-      absurd (large_not_few q laws text m y x.has_lines x.few)
-  one_fault (faults.Kids n) (faults.Kids m) in_a in_b x y = ap faults.Kids (misfit_one q laws text n m x y)
-  one_fault (faults.Kids n) (faults.Member m) in_a in_b x y = absurd (misfit_not_tree q laws text n x y.is_text)
-  one_fault (faults.Kids n) (faults.Needs m) in_a in_b x y = absurd (misfit_not_tree q laws text n x y.is_text)
-  one_fault (faults.Kids n) faults.Request in_a in_b x y = absurd (misfit_not_tree q laws text n x y.is_text)
-  one_fault (faults.Kids n) (faults.Number m) in_a in_b x y = absurd (misfit_not_tree q laws text n x y.is_text)
-  one_fault (faults.Kids n) faults.Memory in_a in_b x y = absurd (in_b refl)
-  one_fault (faults.Member n) faults.TooLong in_a in_b x y =
-      absurd (long_not_short q laws text y x.is_text.has_lines.short)
-  one_fault (faults.Member n) (faults.Form m) in_a in_b x y =
-      absurd (unformed_not_lines q laws text m y x.is_text.has_lines)
-  one_fault (faults.Member n) (faults.TooLarge m) in_a in_b x y =
-      absurd (large_not_few q laws text m y x.is_text.has_lines x.is_text.few)
-  one_fault (faults.Member n) (faults.Kids m) in_a in_b x y = absurd (misfit_not_tree q laws text m y x.is_text)
-  one_fault (faults.Member n) (faults.Member m) in_a in_b x y = ap faults.Member (outsider_one q laws text n m x y)
-  one_fault (faults.Member n) (faults.Needs m) in_a in_b x y =
-      absurd (outsider_not_member q laws text n x y.is_text y.members)
-  one_fault (faults.Member n) faults.Request in_a in_b x y =
-      absurd (outsider_not_member q laws text n x y.is_text (valid_members q y.tree y.valid))
-  one_fault (faults.Member n) (faults.Number m) in_a in_b x y =
-      absurd (outsider_not_member q laws text n x y.is_text (valid_members q y.tree y.serves.valid))
-  one_fault (faults.Member n) faults.Memory in_a in_b x y = absurd (in_b refl)
-  one_fault (faults.Needs n) faults.TooLong in_a in_b x y =
-      absurd (long_not_short q laws text y x.is_text.has_lines.short)
-  one_fault (faults.Needs n) (faults.Form m) in_a in_b x y =
-      absurd (unformed_not_lines q laws text m y x.is_text.has_lines)
-  one_fault (faults.Needs n) (faults.TooLarge m) in_a in_b x y =
-      absurd (large_not_few q laws text m y x.is_text.has_lines x.is_text.few)
-  one_fault (faults.Needs n) (faults.Kids m) in_a in_b x y = absurd (misfit_not_tree q laws text m y x.is_text)
-  one_fault (faults.Needs n) (faults.Member m) in_a in_b x y =
-      absurd (outsider_not_member q laws text m y x.is_text x.members)
-  one_fault (faults.Needs n) (faults.Needs m) in_a in_b x y = ap faults.Needs (unfit_one q laws text n m x y)
-  one_fault (faults.Needs n) faults.Request in_a in_b x y = absurd (unfit_not_valid q laws text n x y.is_text y.valid)
-  one_fault (faults.Needs n) (faults.Number m) in_a in_b x y =
-      absurd (unfit_not_valid q laws text n x y.is_text y.serves.valid)
-  one_fault (faults.Needs n) faults.Memory in_a in_b x y = absurd (in_b refl)
-  one_fault faults.Request faults.TooLong in_a in_b x y =
-      absurd (long_not_short q laws text y x.is_text.has_lines.short)
-  one_fault faults.Request (faults.Form m) in_a in_b x y =
-      absurd (unformed_not_lines q laws text m y x.is_text.has_lines)
-  one_fault faults.Request (faults.TooLarge m) in_a in_b x y =
-      absurd (large_not_few q laws text m y x.is_text.has_lines x.is_text.few)
-  one_fault faults.Request (faults.Kids m) in_a in_b x y = absurd (misfit_not_tree q laws text m y x.is_text)
-  one_fault faults.Request (faults.Member m) in_a in_b x y =
-      absurd (outsider_not_member q laws text m y x.is_text (valid_members q x.tree x.valid))
-  one_fault faults.Request (faults.Needs m) in_a in_b x y = absurd (unfit_not_valid q laws text m y x.is_text x.valid)
-  one_fault faults.Request faults.Request in_a in_b x y = refl
-  one_fault faults.Request (faults.Number m) in_a in_b x y =
-      absurd (unmet_not_served q laws text x y.is_text y.serves)
-  one_fault faults.Request faults.Memory in_a in_b x y = absurd (in_b refl)
-  one_fault (faults.Number n) faults.TooLong in_a in_b x y =
-      absurd (long_not_short q laws text y x.is_text.has_lines.short)
-  one_fault (faults.Number n) (faults.Form m) in_a in_b x y =
-      absurd (unformed_not_lines q laws text m y x.is_text.has_lines)
-  one_fault (faults.Number n) (faults.TooLarge m) in_a in_b x y =
-      absurd (large_not_few q laws text m y x.is_text.has_lines x.is_text.few)
-  one_fault (faults.Number n) (faults.Kids m) in_a in_b x y = absurd (misfit_not_tree q laws text m y x.is_text)
-  one_fault (faults.Number n) (faults.Member m) in_a in_b x y =
-      absurd (outsider_not_member q laws text m y x.is_text (valid_members q x.tree x.serves.valid))
-  one_fault (faults.Number n) (faults.Needs m) in_a in_b x y =
-      absurd (unfit_not_valid q laws text m y x.is_text x.serves.valid)
-  one_fault (faults.Number n) faults.Request in_a in_b x y =
-      absurd (unmet_not_served q laws text y x.is_text x.serves)
-  one_fault (faults.Number n) (faults.Number m) in_a in_b x y = ap faults.Number (number_one q laws text n m x y)
-  one_fault (faults.Number n) faults.Memory in_a in_b x y = absurd (in_b refl)
-  one_fault faults.Memory other in_a in_b x y = absurd (in_a refl)
+  one_fault a b in_a in_b x y = elim (cases_lt (place a) (place b)) [
+    | inl before ↦ absurd (earlier a b before (has_place b in_b) x y)
+    | inr most ↦ elim (cases_lt (place b) (place a)) [
+      | inl behind ↦ absurd (earlier b a behind (has_place a in_a) y x)
+      | inr least ↦ same_place a b (omega (arith, most, least)) (has_place b in_b) x y
+    ]
+  ]
 
   good_no_fault : (cost : ℕ) (b : TextFault) → b ≢ faults.Memory → IsGoodText q text cost → HasFault q text b → ⊥
   good_no_fault cost faults.TooLong in_a x y = long_not_short q laws text y x.short

@@ -2,25 +2,12 @@
 use Rattle.std.proofs.Common.{◌≡◌, ℕ, suc, ◌+◌, ◌≤◌, List, [], ◌∷◌, ◌++◌, Option, None, Some, map, length, reverse, refl, sym}
 use Rattle.std.proofs.Common.{ap, ◌∙◌, subst, arith, append_assoc, inl, inr}
 use Rattle.std.specs.List.{All}
-use Rattle.std.specs.Prelude.{MatchOption}
 use Rattle.std.proofs.lemmas.Bool.{cases_lt}
 use Rattle.std.proofs.lemmas.List.{append-nil, reverse-append}
 use Rattle.std.proofs.lemmas.List.Elements.{All-nil, All-cons}
-use Rattle.query_core.specs.Expressions.{IsCandidate, IsPacked, expr_of}
-use Rattle.query_core.specs.Keys.{IsGroup, IsGroupInRange}
-use Rattle.query_core.specs.declared.expressions.ExprParts.{ExprParts}
 use Rattle.query_core.specs.declared.query.Query.{Query}
-use Rattle.query_core.specs.declared.words.KeyParts.{KeyParts}
-use Rattle.request_props.specs.Numbered.{lists_of, orders_of}
-use Rattle.plan_space.specs.Gives.{kid_of}
 use Rattle.plan_space.specs.Nodes.{Tree}
-use Rattle.plan_space.specs.declared.nodes.Enforcer.{Enforcer}
-use Rattle.plan_space.specs.declared.nodes.Enforcer.TheVariants as enforcers
-use Rattle.plan_space.specs.declared.nodes.NodeKind.{NodeKind}
-use Rattle.plan_space.specs.declared.nodes.NodeKind.TheVariants as nodes
-use Rattle.plan_tree.specs.Nodes.{EnforcerInRange, IsNodeInRange}
 use Rattle.plan_tree.specs.Spells.{Spells}
-use Rattle.plan_check.specs.Nodes.{IsEnforcerOf, IsKindOf}
 use Rattle.plan_reading.specs.Formed.{AreInPlace, Follows}
 use Rattle.plan_reading.specs.Laws.{OutlinesAreOne}
 use Rattle.plan_reading.specs.Lines.{sketch}
@@ -28,64 +15,15 @@ use Rattle.plan_reading.specs.Named.{HasForm}
 use Rattle.plan_reading.specs.Outline.{outline}
 use Rattle.plan_reading.specs.declared.line.NodeLine.{NodeLine}
 use Rattle.text_check.specs.Blocks.{Fits, LineFits, EndsBlock, tails, AreLinesOf, IsMisfit}
-use Rattle.text_check.specs.Grown.{StandsOver, AreGrown, IsOver, AreDeeper, EndsAt, AreOf, IsTaken}
-use Rattle.text_check.specs.Grown.{HasMode, HaveRanges, kids_list, seen_of}
+use Rattle.text_check.specs.Grown.{StandsOver, IsOver, AreDeeper, EndsAt, AreOf, IsTaken, kids_list}
 use Rattle.text_check.specs.declared.kids.Grown.{Grown}
 use Rattle.text_check.specs.declared.kids.TakenKids.{TakenKids}
-use Rattle.text_check.specs.declared.kids.TakenKids.TheVariants as kids
-use Rattle.text_check.proofs.LineBlocks.{IsForest, first_level, forest_of, grown_trees, line_fits, line_stands, none_fits, plan_first}
-use Rattle.text_check.proofs.Trees.{kids_at, trees_range}
-
--- ---- nodes in range
-
-module _ (q : Query) (few_lists : length (lists_of q) ≤ 60) (few_orders : length (orders_of q) ≤ 60) where
-  enforcer_range : (e : Enforcer) → IsEnforcerOf q e → EnforcerInRange e
-  enforcer_range enforcers.Gather is = tt
-  enforcer_range enforcers.Broadcast is = tt
-  enforcer_range (enforcers.Sort o) is =
-      let numbered = is.numbered in
-      record { some = is.not_empty; few = omega (arith, numbered, few_orders) }
-  enforcer_range (enforcers.GatherMerge o) is =
-      let numbered = is.numbered in
-      record { some = is.not_empty; few = omega (arith, numbered, few_orders) }
-  enforcer_range (enforcers.Redistribute h) is = omega (arith, is, few_lists)
-
-  pub node_range : ((e : ExprParts) → IsCandidate q e → IsPacked e) → (node : NodeKind) → IsKindOf q node → HasMode node
-      → IsNodeInRange node
-  node_range packed (nodes.Native e mode) is few = record { packed = packed (expr_of e) is.candidate; few = few }
-  node_range packed (nodes.Enforcer e) is few = enforcer_range e is
-
--- a node stands over two plans at most
-pub kids_few : (taken : TakenKids) → length (kids_list taken) ≤ 2
-kids_few kids.Nothing = omega arith
-kids_few (kids.One only) = omega arith
-kids_few (kids.Two left right) = omega arith
-
--- what is told of an answer that is none, or one
-pub none_at : {A : Type 0} (o : Option A) (Other : Type 0) (Fact : A → Type 0) → o ≡ None → MatchOption o Other Fact → Other
-none_at o Other Fact is told = subst (λ x. MatchOption x Other Fact) is told
-
-pub some_at : {A : Type 0} (o : Option A) (Other : Type 0) (Fact : A → Type 0) (a : A) → o ≡ Some a
-    → MatchOption o Other Fact → Fact a
-some_at o Other Fact a is told = subst (λ x. MatchOption x Other Fact) is told
-
--- what is seen of them is what is seen of the trees
-pub seen_is : (q : Query) (gs : List Grown) (ts : List Tree) → AreGrown q gs ts → seen_of gs ≡ kids_at q ts
-seen_is q [] [] are = refl
-seen_is q [] (t ∷ ts) are = absurd are
-seen_is q (g ∷ gs) [] are = absurd are
-seen_is q (g ∷ gs) (t ∷ ts) are =
-    ap (λ k. k ∷ seen_of gs) are.0.seen ∙ ap (λ ks. kid_of q t ∷ ks) (seen_is q gs ts are.1)
-
-pub seen_range : (q : Query) → ((g : KeyParts) → IsGroup q g → IsGroupInRange g) → (gs : List Grown) (ts : List Tree)
-    → AreGrown q gs ts → HaveRanges (seen_of gs)
-seen_range q range gs ts are =
-    subst HaveRanges (sym (seen_is q gs ts are)) (trees_range q range ts (grown_trees q gs ts are))
+use Rattle.text_check.proofs.LineBlocks.{IsForest, first_level, forest_of, line_fits, line_stands, none_fits, plan_first}
 
 -- ---- the lines behind a line
 
 -- behind some lines in their places stand others in theirs
-pub in_place_behind : (q : Query) (last : Option ℕ) (before : List NodeLine) (line : NodeLine) (done : List NodeLine)
+in_place_behind : (q : Query) (last : Option ℕ) (before : List NodeLine) (line : NodeLine) (done : List NodeLine)
     → AreInPlace q last (before ++ line ∷ done) → (level : Option ℕ) × Follows q level line × AreInPlace q (Some line.level) done
 in_place_behind q last [] line done are = (last, are.0, are.1)
 in_place_behind q last (first ∷ before) line done are = in_place_behind q (Some first.level) before line done are.1
@@ -93,6 +31,29 @@ in_place_behind q last (first ∷ before) line done are = in_place_behind q (Som
 next_start : (q : Query) (level : ℕ) (done : List NodeLine) → AreInPlace q (Some level) done → EndsBlock (suc level) done
 next_start q level [] are = tt
 next_start q level (line ∷ done) are = let most = are.0.level.1 in omega (arith, most)
+
+-- the place of a line among all
+tails_split : (before : List NodeLine) (line : NodeLine) (done : List NodeLine)
+    → (front : List (NodeLine × List NodeLine)) × (tails (before ++ line ∷ done) ≡ front ++ (line, done) ∷ tails done)
+    × (length front ≡ length before)
+tails_split [] line done = ([], refl, refl)
+tails_split (first ∷ before) line done =
+    let rest = tails_split before line done in (
+      (first, before ++ line ∷ done) ∷ rest.0,
+      ap (λ ts. (first, before ++ line ∷ done) ∷ ts) rest.1,
+      ap suc rest.2,
+    )
+
+-- the deeper plans come first
+deepest : (level : ℕ) (gs : List Grown) → (taken : List Grown) × (others : List Grown) × (gs ≡ taken ++ others)
+    × AreDeeper level taken × EndsAt level others
+deepest level [] = ([], [], refl, tt, tt)
+deepest level (g ∷ gs) = elim (cases_lt level g.level) [
+  | inl less ↦
+      let rest = deepest level gs in
+      (g ∷ rest.0, rest.1, ap (λ x. g ∷ x) rest.2, (less, rest.3), rest.4)
+  | inr most ↦ ([], g ∷ gs, refl, tt, most)
+]
 
 -- ---- what was made of the lines
 
@@ -111,119 +72,96 @@ made_start q lines items none = record {
   fits = All-nil (LineFits q);
 }
 
--- a line, and those behind it
-pub line_parts : (lines rest before done : List NodeLine) (line : NodeLine) → lines ≡ rest ++ done → rest ≡ before ++ line ∷ []
-    → lines ≡ before ++ line ∷ done
-line_parts lines rest before done line parts is =
-    parts ∙ ap (λ ls. ls ++ done) is ∙ append_assoc before (line ∷ []) done
-
 module _ (q : Query) (one : OutlinesAreOne q) (lines : List NodeLine)
     (in_place : AreInPlace q None lines) where
-  -- what stands before the line and behind it
-  pub record IsAt (before : List NodeLine) (line : NodeLine) (done : List NodeLine) : Type 0 where
+  -- what stands before the line and behind it, and the plans that were made of what stands behind it
+  pub record IsAt (before : List NodeLine) (line : NodeLine) (items : List Grown) : Type 0 where
+    pub done : List NodeLine
     pub parts : lines ≡ before ++ line ∷ done
     pub form : HasForm q line.node
     pub start : EndsBlock (suc line.level) done
+    pub plans : AreOf q (reverse items) done
+    pub fits : All (LineFits q) (tails done)
 
-  pub at_line : (rest before done : List NodeLine) (line : NodeLine) → lines ≡ rest ++ done → rest ≡ before ++ line ∷ []
-      → IsAt before line done
-  at_line rest before done line parts is =
-      let all = line_parts lines rest before done line parts is in
+  -- it is the last of those that are left
+  pub at_line : (rest before : List NodeLine) (line : NodeLine) (items : List Grown) → AreMade q lines rest items
+      → rest ≡ before ++ line ∷ [] → IsAt before line items
+  at_line rest before line items made is =
+      let done = made.done in
+      let all : lines ≡ before ++ line ∷ done =
+      made.parts ∙ ap (λ ls. ls ++ done) is ∙ append_assoc before (line ∷ []) done in
       let behind = in_place_behind q None before line done (subst (AreInPlace q None) all in_place) in
-      record { parts = all; form = behind.1.is_line.form; start = next_start q line.level done behind.2 }
-
-  -- the plans below the line
-  pub forest_at : (before done : List NodeLine) (line : NodeLine) (gs after : List Grown) (taken : TakenKids)
-      → IsAt before line done
-      → AreOf q gs done → IsTaken line.level gs after (Some taken) → IsForest q line.level (kids_list taken) after done
-  forest_at before done line gs after taken at are is =
-      forest_of q line.level (kids_list taken) after done is.1 is.2 at.start
-      (subst (λ x. AreOf q x done) is.0 are)
-
-  -- the place of a line among all
-  tails_split : (before : List NodeLine) (line : NodeLine) (done : List NodeLine)
-      → (front : List (NodeLine × List NodeLine)) × (tails (before ++ line ∷ done) ≡ front ++ (line, done) ∷ tails done)
-      × (length front ≡ length before)
-  tails_split [] line done = ([], refl, refl)
-  tails_split (first ∷ before) line done =
-      let rest = tails_split before line done in (
-        (first, before ++ line ∷ done) ∷ rest.0,
-        ap (λ ts. (first, before ++ line ∷ done) ∷ ts) rest.1,
-        ap suc rest.2,
-      )
-
-  -- it doesn't fit, and all behind it do
-  pub misfit_at : (before done : List NodeLine) (line : NodeLine) (told : ℕ) → IsAt before line done
-      → All (LineFits q) (tails done) → (Fits q line done → ⊥) → told ≡ length before + 2 → IsMisfit q lines told
-  misfit_at before done line told at fits lacks is =
-      let split = tails_split before line done in
       record {
-        place = length before;
-        line_is = is;
-        last = record {
-          before = split.0;
-          element = (line, done);
-          behind = tails done;
-          parts = ap tails at.parts ∙ split.1;
-          count = sym split.2;
-          lacks = lacks;
-          others = fits;
-        };
+        done = done;
+        parts = all;
+        form = behind.1.is_line.form;
+        start = next_start q line.level done behind.2;
+        plans = made.plans;
+        fits = made.fits;
       }
 
-  -- so it is where its node stands over none of them
-  pub misfit_over : (before done : List NodeLine) (line : NodeLine) (gs after : List Grown) (taken : TakenKids)
-      (told : ℕ)
-      → (at : IsAt before line done) → (are : AreOf q gs done) → (is : IsTaken line.level gs after (Some taken))
-      → All (LineFits q) (tails done)
-      → ((t : Tree) → StandsOver q line (forest_at before done line gs after taken at are is).trees t → ⊥)
-      → told ≡ length before + 2 → IsMisfit q lines told
-  misfit_over before done line gs after taken told at are is fits none place =
-      let f = forest_at before done line gs after taken at are is in
-      misfit_at before done line told at fits
-      (λ (x : Fits q line done). none x.tree (line_stands q one line (kids_list taken) after done f x)) place
+  module _ (before : List NodeLine) (line : NodeLine) (items : List Grown) (at : IsAt before line items) where
+    -- the plans below the line
+    pub forest_at : (after : List Grown) (taken : TakenKids) → IsTaken line.level (reverse items) after (Some taken)
+        → IsForest q line.level (kids_list taken) after at.done
+    forest_at after taken is =
+        forest_of q line.level (kids_list taken) after at.done is.1 is.2 at.start
+        (subst (λ x. AreOf q x at.done) is.0 at.plans)
 
-  -- the deeper plans come first
-  deepest : (level : ℕ) (gs : List Grown) → (taken : List Grown) × (others : List Grown) × (gs ≡ taken ++ others)
-      × AreDeeper level taken × EndsAt level others
-  deepest level [] = ([], [], refl, tt, tt)
-  deepest level (g ∷ gs) = elim (cases_lt level g.level) [
-    | inl less ↦
-        let rest = deepest level gs in
-        (g ∷ rest.0, rest.1, ap (λ x. g ∷ x) rest.2, (less, rest.3), rest.4)
-    | inr most ↦ ([], g ∷ gs, refl, tt, most)
-  ]
+    -- it doesn't fit, and all behind it do
+    misfit_at : (told : ℕ) → (Fits q line at.done → ⊥) → told ≡ length before + 2 → IsMisfit q lines told
+    misfit_at told lacks is =
+        let split = tails_split before line at.done in
+        record {
+          place = length before;
+          line_is = is;
+          last = record {
+            before = split.0;
+            element = (line, at.done);
+            behind = tails at.done;
+            parts = ap tails at.parts ∙ split.1;
+            count = sym split.2;
+            lacks = lacks;
+            others = at.fits;
+          };
+        }
 
-  -- and where there are more than two
-  pub misfit_many : (before done : List NodeLine) (line : NodeLine) (gs after : List Grown) (told : ℕ)
-      → IsAt before line done → AreOf q gs done → IsTaken line.level gs after None → All (LineFits q) (tails done)
-      → told ≡ length before + 2 → IsMisfit q lines told
-  misfit_many before done line gs after told at are (a, b, c, others, parts, deep) fits place =
-      let more = deepest line.level others in
-      let all : gs ≡ (a ∷ b ∷ c ∷ more.0) ++ more.1 = parts ∙ ap (λ x. a ∷ b ∷ c ∷ x) more.2 in
-      let f = forest_of q line.level (a ∷ b ∷ c ∷ more.0) more.1 done (deep.0, (deep.1.0, (deep.1.1.0, more.3))) more.4 at.start
-      (subst (λ x. AreOf q x done) all are) in
-      misfit_at before done line told at fits
-      (none_fits q one line (a ∷ b ∷ c ∷ more.0) more.1 done f (omega arith)) place
+    -- so it is where its node stands over none of them
+    pub misfit_over : (after : List Grown) (taken : TakenKids) (told : ℕ)
+        → (is : IsTaken line.level (reverse items) after (Some taken))
+        → ((t : Tree) → StandsOver q line (forest_at after taken is).trees t → ⊥) → told ≡ length before + 2
+        → IsMisfit q lines told
+    misfit_over after taken told is none place =
+        misfit_at told
+        (λ (x : Fits q line at.done). none x.tree (line_stands q one line (kids_list taken) after at.done
+        (forest_at after taken is) x)) place
 
-  -- or else its plan comes first
-  pub made_next : (before done : List NodeLine) (line : NodeLine) (gs : List Grown) (after items : List Grown)
-      (taken : TakenKids)
-      (g : Grown) → (at : IsAt before line done) → (are : AreOf q gs done)
-      → (is : IsTaken line.level gs (reverse after) (Some taken)) → All (LineFits q) (tails done)
-      → IsOver q line (forest_at before done line gs (reverse after) taken at are is).trees g → items ≡ after ++ g ∷ []
-      → AreMade q lines before items
-  made_next before done line gs after items taken g at are is fits over pushed =
-      let f = forest_at before done line gs (reverse after) taken at are is in
-      let turned : reverse items ≡ g ∷ reverse after = ap reverse pushed ∙ reverse-append after (g ∷ []) in
-      record {
-        done = line ∷ done;
-        parts = at.parts;
-        plans = subst (λ x. AreOf q x (line ∷ done)) (sym turned)
-            (plan_first q line (kids_list taken) (reverse after) done f g over);
-        fits = All-cons (LineFits q) (line, done) (tails done)
-            (line_fits q line (kids_list taken) (reverse after) done f over.tree over.stands) fits;
-      }
+    -- and where there are more than two
+    pub misfit_many : (after : List Grown) (told : ℕ) → IsTaken line.level (reverse items) after None
+        → told ≡ length before + 2 → IsMisfit q lines told
+    misfit_many after told (a, b, c, others, parts, deep) place =
+        let more = deepest line.level others in
+        let all : reverse items ≡ (a ∷ b ∷ c ∷ more.0) ++ more.1 = parts ∙ ap (λ x. a ∷ b ∷ c ∷ x) more.2 in
+        let f = forest_of q line.level (a ∷ b ∷ c ∷ more.0) more.1 at.done (deep.0, (deep.1.0, (deep.1.1.0, more.3)))
+        more.4 at.start (subst (λ x. AreOf q x at.done) all at.plans) in
+        misfit_at told (none_fits q one line (a ∷ b ∷ c ∷ more.0) more.1 at.done f (omega arith)) place
+
+    -- or else its plan comes first
+    pub made_next : (after pushed : List Grown) (taken : TakenKids) (g : Grown)
+        → (is : IsTaken line.level (reverse items) (reverse after) (Some taken))
+        → IsOver q line (forest_at (reverse after) taken is).trees g → pushed ≡ after ++ g ∷ []
+        → AreMade q lines before pushed
+    made_next after pushed taken g is over more =
+        let f = forest_at (reverse after) taken is in
+        let turned : reverse pushed ≡ g ∷ reverse after = ap reverse more ∙ reverse-append after (g ∷ []) in
+        record {
+          done = line ∷ at.done;
+          parts = at.parts;
+          plans = subst (λ x. AreOf q x (line ∷ at.done)) (sym turned)
+              (plan_first q line (kids_list taken) (reverse after) at.done f g over);
+          fits = All-cons (LineFits q) (line, at.done) (tails at.done)
+              (line_fits q line (kids_list taken) (reverse after) at.done f over.tree over.stands) at.fits;
+        }
 
   -- ---- all lines
 

@@ -46,10 +46,10 @@ root_kids q (leaf node) is = is.1
 root_kids q (over node kid) is = is.2
 root_kids q (two node left right) is = is.3
 
-pub root_seen : (q : Query) (t : Tree) → kid_of q t ≡ kid_under q (root_node t) (kids_at q (subtrees t))
-root_seen q (leaf node) = refl
-root_seen q (over node kid) = refl
-root_seen q (two node left right) = refl
+pub kid_by_root : (q : Query) (t : Tree) → kid_of q t ≡ kid_under q (root_node t) (kids_at q (subtrees t))
+kid_by_root q (leaf node) = refl
+kid_by_root q (over node kid) = refl
+kid_by_root q (two node left right) = refl
 
 -- at most two plans are below a root
 pub few_below : (t : Tree) → length (subtrees t) ≤ 2
@@ -99,7 +99,7 @@ module _ (q : Query) (meant : NodesAreMeant q) where
       let own : HasKids (root_node t) (kids_at q below) =
       subst (λ ts. HasKids (root_node t) (kids_at q ts)) is.over (root_kids q t is.is_tree) in
       let group : (kid_of q t).group ≡ node_group (node_over line.node (kids_at q below)) (kids_at q below) =
-      ap (λ (k : Kid). k.group) (root_seen q t) ∙ ap (λ ts. node_group (root_node t) (kids_at q ts)) is.over
+      ap (λ (k : Kid). k.group) (kid_by_root q t) ∙ ap (λ ts. node_group (root_node t) (kids_at q ts)) is.over
       ∙ ap (λ n. node_group n (kids_at q below)) node in
       record {
         kind = subst (IsKindOf q) node (root_kind q t is.is_tree);
@@ -120,9 +120,9 @@ stands_over q line node (left ∷ right ∷ []) few are named may =
 stands_over q line node (left ∷ right ∷ third ∷ others) few are named may = absurd (omega (arith, few))
 
 -- a plan over two at most is seen as its root over what is seen of these
-pub over_seen : (q : Query) (node : NodeKind) (below : List Tree) → length below ≤ 2
+pub kid_of_tree_over : (q : Query) (node : NodeKind) (below : List Tree) → length below ≤ 2
     → kid_of q (tree_over node below) ≡ kid_under q node (kids_at q below)
-over_seen q node [] few = refl
-over_seen q node (kid ∷ []) few = refl
-over_seen q node (left ∷ right ∷ []) few = refl
-over_seen q node (left ∷ right ∷ third ∷ others) few = absurd (omega (arith, few))
+kid_of_tree_over q node [] few = refl
+kid_of_tree_over q node (kid ∷ []) few = refl
+kid_of_tree_over q node (left ∷ right ∷ []) few = refl
+kid_of_tree_over q node (left ∷ right ∷ third ∷ others) few = absurd (omega (arith, few))

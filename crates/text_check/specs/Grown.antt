@@ -38,10 +38,10 @@ pub record StandsOver (q : Query) (line : NodeLine) (below : List Tree) (tree : 
   pub of_root : line.level ≡ 0 → (kid_of q tree).group ≡ root_of q
 
 -- the node may stand over plans that are seen so, at the level of the line
-pub record MayStand (q : Query) (level : ℕ) (node : NodeKind) (seen : List Kid) : Type 0 where
+pub record MayStand (q : Query) (level : ℕ) (node : NodeKind) (kids : List Kid) : Type 0 where
   pub kind : IsKindOf q node
-  pub has_kids : HasKids node seen
-  pub of_root : level ≡ 0 → node_group node seen ≡ root_of q
+  pub has_kids : HasKids node kids
+  pub of_root : level ≡ 0 → node_group node kids ≡ root_of q
 
 -- an expression's mode is one that a node's number can name
 abbrev pub HasMode : NodeKind → Type 0
@@ -52,7 +52,7 @@ HasMode (nodes.Enforcer e) = ⊤
 pub record IsGrown (q : Query) (grown : Grown) (tree : Tree) : Type 0 where
   pub is_tree : IsPlanTree q tree
   pub spells : Spells grown.plan tree
-  pub seen : grown.kid ≡ kid_of q tree
+  pub kid : grown.kid ≡ kid_of q tree
 
 -- so are these
 abbrev pub AreGrown : Query → List Grown → List Tree → Type 0
@@ -77,8 +77,8 @@ kids_list (kids.One only) = only ∷ []
 kids_list (kids.Two left right) = left ∷ right ∷ []
 
 -- what is seen of them
-abbrev pub seen_of : List Grown → List Kid
-seen_of list = map (λ grown. grown.kid) list
+abbrev pub grown_kids : List Grown → List Kid
+grown_kids list = map (λ grown. grown.kid) list
 
 -- their groups are groups that some query can have
 abbrev pub HaveRanges : List Kid → Type 0

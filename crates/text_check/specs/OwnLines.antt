@@ -1,21 +1,18 @@
 -- What a plan's own lines say of its nodes.
-use Rattle.std.specs.Prelude.{◌≡◌, List, [], ◌∷◌, ◌++◌, reverse}
+use Rattle.std.specs.Prelude.{List, [], ◌∷◌, ◌++◌}
 use Rattle.cardinality.specs.Rows.{rows_of}
 use Rattle.cost_units.specs.Cost.{local_cost}
 use Rattle.query_core.specs.declared.query.Query.{Query}
 use Rattle.plan_space.specs.Cost.{shape_of}
-use Rattle.plan_space.specs.Gives.{node_group, kid_of, kid_under}
+use Rattle.plan_space.specs.Gives.{node_group, kid_of}
 use Rattle.plan_space.specs.Nodes.{Tree, leaf, over, two}
 use Rattle.plan_space.specs.declared.nodes.NodeKind.{NodeKind}
 use Rattle.plan_space.specs.declared.seen.Kid.{Kid}
-use Rattle.plan_tree.specs.Nodes.{IsNode}
-use Rattle.plan_tree.specs.Seen.{kids_seen, HasGroup, HaveGroups}
-use Rattle.plan_tree.specs.Spells.{Spells}
 use Rattle.plan_tree.specs.declared.node.Node.{Node}
 use Rattle.plan_tree.specs.declared.plan.Plan.{Plan}
 use Rattle.plan_tree.specs.declared.seen.Kids.{Kids}
 use Rattle.plan_check.specs.Nodes.{IsKindOf}
-use Rattle.plan_reading.specs.Outline.{IsPlanTree}
+use Rattle.plan_lines.specs.Gathered.{AddsNode, AddsPlan}
 use Rattle.text_check.specs.declared.own.OwnLine.{OwnLine}
 
 -- a node over its kids, the rows of its group and its own cost
@@ -37,22 +34,12 @@ own_lines q (two node left right) =
 abbrev pub IsLineOf : Query → OwnLine → Type 0
 IsLineOf q line = IsKindOf q line.node
 
--- ---- how they are gathered, from the last one on
+-- ---- how they are gathered, the last one first
 
--- this is seen of the plan, where it is a tree
-abbrev pub IsSeenOf : Query → Plan → Kid → Type 0
-IsSeenOf q plan seen = (tree : Tree) → Spells plan tree → seen ≡ kid_of q tree
-
--- this is seen of the node over these plans
-abbrev pub IsSeenOver : Query → Node → Kids → Kid → Type 0
-IsSeenOver q node below seen = (kind : NodeKind) → IsNode node kind → seen ≡ kid_under q kind (kids_seen below)
-
--- the line of the node was added, where the groups are the query's
+-- the line of the node was added
 abbrev pub AddsLine : Query → Node → Kids → List OwnLine → List OwnLine → Type 0
-AddsLine q node below before after = (kind : NodeKind) → IsNode node kind → HasGroup q kind → HaveGroups q below
-    → after ≡ before ++ (own_line q kind (kids_seen below) ∷ [])
+AddsLine q node below before after = AddsNode q (λ kind kids. own_line q kind kids ∷ []) node below before after
 
--- the lines of the plan were added, the last one first, where it is a tree of nodes of the query
+-- the lines of the plan were added
 abbrev pub AddsLines : Query → Plan → List OwnLine → List OwnLine → Type 0
-AddsLines q plan before after = (tree : Tree) → Spells plan tree → IsPlanTree q tree
-    → after ≡ before ++ reverse (own_lines q tree)
+AddsLines q plan before after = AddsPlan q (own_lines q) plan before after

@@ -20,7 +20,7 @@ ghost use Rattle.plan_reading.specs.Formed.{AreInPlace};
 ghost use Rattle.plan_reading.specs.Named.{HasForm};
 ghost use Rattle.text_check.specs.Blocks.{AreLinesOf};
 ghost use Rattle.text_check.specs.Grown.{AreGrown, HasMode, HasTreeFault, IsOver, MayStand, StandsOver};
-ghost use Rattle.text_check.specs.Grown.{kids_list, seen_of, tree_over, HaveRanges};
+ghost use Rattle.text_check.specs.Grown.{grown_kids, kids_list, tree_over, HaveRanges};
 
 use crate::fault::TreeFault;
 use crate::kids::{Grown, TakenKids, take_kids};
@@ -30,7 +30,8 @@ use plan_reading::{NodeLine, nodes_are_meant, outlines_are_one};
 use plan_space::NodeKind;
 use plan_tree::{Kids, Node, Plan, seen_above};
 use query_core::{
-    Children, KeyParts, Physical, PhysicalExpr, Query, candidates_are_known, groups_are_known,
+    Access, Children, KeyParts, Physical, PhysicalExpr, Query, candidates_are_known,
+    groups_are_known,
 };
 use request_props::Props;
 use std::alloc::{AllocError, AllocFailed, Global};
@@ -83,7 +84,7 @@ fn over(
 ) -> Result<Option<Grown>, AllocError>
     requires props { IsProps query.now props.now }
     requires form { HasForm query.now line.node }
-    requires groups { HaveRanges (seen_of (kids_list kids)) }
+    requires groups { HaveRanges (grown_kids (kids_list kids)) }
     ensures { (trees : List Tree) → AreGrown query.now (kids_list kids) trees →
         IfOk result (λ grown. MatchOption grown
         ((t : Tree) → StandsOver query.now line trees t → ⊥) (IsOver query.now line trees)) }
@@ -91,7 +92,7 @@ fn over(
     // For the proof: the node is the only one that may be meant.
     nodes_are_meant();
     candidates_are_known();
-    let below = kids.seen();
+    let below = kids.kids();
     let kind = node_over(line.node, below);
     if !may_stand(query, props, line.level, kind, below) {
         return Ok(None);
@@ -159,10 +160,9 @@ fn has_word(expr: PhysicalExpr) -> bool
 fn index_of(operator: Physical) -> u32
     ensures { result ≡ (physical_fields operator).index }
 {
-    match operator {
-        Physical::IndexScan(index) => index,
-        Physical::IndexSeek(index) => index,
-        _ => 0,
+    match operator.access() {
+        Access::Direct => 0,
+        Access::Index(index) => index,
     }
 }
 

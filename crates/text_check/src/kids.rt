@@ -3,7 +3,7 @@
 
 ghost use Rattle.std.specs.Prelude.{◌≡◌, ◌↔◌, ◌<◌, IsTrue, reverse};
 ghost use Rattle.plan_tree.specs.Seen.{kids_seen};
-ghost use Rattle.text_check.specs.Grown.{IsTaken, IsPopped, IsFirstDeeper, kids_list, seen_of};
+ghost use Rattle.text_check.specs.Grown.{IsTaken, IsPopped, IsFirstDeeper, grown_kids, kids_list};
 
 use plan_space::Kid;
 use plan_tree::{Kids, Plan};
@@ -27,8 +27,8 @@ pub enum TakenKids {
 
 impl TakenKids {
     /// What a node sees of them.
-    pub fn seen(&self) -> Kids
-        ensures { kids_seen result ≡ seen_of (kids_list self.now) }
+    pub fn kids(&self) -> Kids
+        ensures { kids_seen result ≡ grown_kids (kids_list self.now) }
     {
         match self {
             TakenKids::Nothing => Kids::Nothing,

@@ -4,13 +4,13 @@
 ghost use Rattle.std.specs.Prelude.{◌≡◌, IfOk, OnOk};
 ghost use Rattle.request_props.specs.Numbered.{IsProps};
 ghost use Rattle.plan_space.specs.Nodes.{Tree};
-ghost use Rattle.plan_space.specs.declared.nodes.NodeKind.{NodeKind as AnyNodeKind};
-ghost use Rattle.plan_tree.specs.Nodes.{IsNode};
 ghost use Rattle.plan_tree.specs.Spells.{Spells};
+ghost use Rattle.plan_lines.specs.Gathered.{IsKidOf, IsKidUnder};
 ghost use Rattle.plan_reading.specs.Outline.{IsPlanTree};
-ghost use Rattle.text_check.specs.OwnLines.{own_lines as the_own_lines, IsSeenOf, IsSeenOver, AddsLine, AddsLines};
+ghost use Rattle.text_check.specs.OwnLines.{own_lines as the_own_lines, AddsLine, AddsLines};
 
-use plan_space::{Enforcer, Kid, NodeKind};
+use plan_lines::node_kind;
+use plan_space::{Kid, NodeKind};
 use plan_tree::{Kids, Node, Plan, cost_above_any, rows_above, seen_above};
 use query_core::Query;
 use request_props::Props;
@@ -49,7 +49,7 @@ fn push_lines(
     lines: &mut Vec<OwnLine>,
 ) -> Result<Kid, AllocError>
     requires { IsProps query.now props.now }
-    ensures seen { IfOk result (IsSeenOf query.now plan.now) }
+    ensures kid { IfOk result (IsKidOf query.now plan.now) }
     ensures added { OnOk result (AddsLines query.now plan.now lines.old.items lines.new.items) }
 {
     match plan {
@@ -75,24 +75,14 @@ fn push_line(
     lines: &mut Vec<OwnLine>,
 ) -> Result<Kid, AllocError>
     requires { IsProps query.now props.now }
-    ensures seen { IfOk result (IsSeenOver query.now node below) }
+    ensures kid { IfOk result (IsKidUnder query.now node below) }
     ensures added { OnOk result (AddsLine query.now node below lines.old.items lines.new.items) }
 {
-    let kind = kind_of(node);
+    let kind = node_kind(node);
     lines.push(OwnLine {
         node: kind,
         rows: rows_above(query, props, kind, below),
         cost: cost_above_any(query, props, kind, below),
     })?;
     Ok(seen_above(query, props, kind, below))
-}
-
-// What the node does; a number that no node has counts as that of a gather.
-fn kind_of(node: Node) -> NodeKind
-    ensures { (kind : AnyNodeKind) → IsNode node kind → result ≡ kind }
-{
-    match node.kind() {
-        Some(kind) => kind,
-        None => NodeKind::Enforcer(Enforcer::Gather),
-    }
 }

@@ -1,29 +1,44 @@
--- behind the root come the nodes of the left plan and then those of the right one
-use Rattle.std.proofs.Common.{◌≡◌, ◌+◌, List, [], ◌∷◌, ◌++◌, Some, suc, subst, arith, rules}
+-- The node of the plan's root comes behind those of the plans below it, the right ones first.
+use Rattle.std.proofs.Common.{suc, rules}
 use Rattle.std.proofs.lemmas.Result.{on_ok_weaker}
-use Rattle.planner.specs.Adding.{AddsPlan, IsRootOf}
-use Rattle.planner.specs.declared.node.PlanNode.{PlanNode}
-use Rattle.planner.proofs.Adding.{two_added}
+use Rattle.plan_lines.specs.Gathered.{IsKidOf}
+use Rattle.plan_lines.proofs.Gathered.{leaf_plan, over_plan, two_plan}
+use Rattle.planner.specs.Adding.{AddsNodes}
+use Rattle.planner.proofs.Adding.{root_first}
 use Rattle.planner.proofs.nodes.+push_plan.Goals as goal
 
-pub returns-in_ok-push_plan-in-Two-clause-adds : goal.returns-in_ok-push_plan-in-Two-clause-adds
-returns-in_ok-push_plan-in-Two-clause-adds t c =
+-- the root stands over none
+pub returns-in-Leaf-clause-added : goal.returns-in-Leaf-clause-added
+returns-in-Leaf-clause-added t c =
     let q = c.args.query.now in
-    let depth = c.args.depth in
+    on_ok_weaker c.push_node.result
+    (leaf_plan q _ _ _ (root_first q c.args.depth) c.args.plan.now c.in-Leaf.node _ _ c.in-Leaf.is)
+    c.push_node.ensures.added
+
+-- the root stands over one plan
+pub returns-in_ok-only-in-Over-clause-added : goal.returns-in_ok-only-in-Over-clause-added
+returns-in_ok-only-in-Over-clause-added t c =
+    let q = c.args.query.now in
+    let kid = c.in-Over.kid.value in
+    let is : IsKidOf q kid c.in_ok-only-in-Over.only = search rules in
+    let first : AddsNodes q (suc c.args.depth) kid c.args.nodes.now.items c.push_plan.new.nodes.items = search rules in
+    on_ok_weaker c.push_node-in-Over.result
+    (over_plan q _ _ _ (root_first q c.args.depth) c.args.plan.now c.in-Over.node _ kid c.in_ok-only-in-Over.only _ _ _
+    c.in-Over.is is first)
+    c.push_node-in-Over.ensures.added
+
+-- the root stands over two plans
+pub returns-in_ok-first-in-Two-clause-added : goal.returns-in_ok-first-in-Two-clause-added
+returns-in_ok-first-in-Two-clause-added t c =
+    let q = c.args.query.now in
     let left = c.in-Two.left.value in
     let right = c.in-Two.right.value in
-    let before : List PlanNode = c.args.nodes.now.items in
-    let middle : List PlanNode = c.push.new.self.items in
-    let halfway : List PlanNode = c.push_plan-in-Two.new.nodes.items in
-    let after : List PlanNode = c.push_plan-in-Two-2.new.nodes.items in
-    let is : IsRootOf q depth c.args.plan.now (Some c.in-Some.root) =
-    subst (IsRootOf q depth c.args.plan.now) c.in-Some.is c.in_ok-root.ensures in
-    let put : middle ≡ before ++ c.in-Some.root ∷ [] = search rules in
-    let deeper : depth + 1 ≡ suc depth = omega arith in
-    let lent : c.deref-in-Two-2.result.now ≡ right = search rules in
-    let next : AddsPlan q (suc depth) left middle halfway = search rules in
-    on_ok_weaker c.push_plan-in-Two-2.result
-    (λ last. two_added q depth c.args.plan.now c.in-Two.field-0 _ left _ right c.in-Some.root before middle halfway
-    after c.in-Two.is is put next
-    (subst (λ d. AddsPlan q d right halfway after) deeper (subst (λ p. AddsPlan q (depth + 1) p halfway after) lent
-    last))) c.push_plan-in-Two-2.ensures.adds
+    let halfway = c.push_plan-in-Two.new.nodes.items in
+    let first : IsKidOf q left c.in_ok-first-in-Two.first = search rules in
+    let second : IsKidOf q right c.in_ok-second-in-Two.second = search rules in
+    let last : AddsNodes q (suc c.args.depth) right c.args.nodes.now.items halfway = search rules in
+    let next : AddsNodes q (suc c.args.depth) left halfway c.push_plan-in-Two-2.new.nodes.items = search rules in
+    on_ok_weaker c.push_node-in-Two.result
+    (two_plan q _ _ _ (root_first q c.args.depth) c.args.plan.now c.in-Two.node _ left _ right
+    c.in_ok-first-in-Two.first c.in_ok-second-in-Two.second _ _ _ _ c.in-Two.is first second last next)
+    c.push_node-in-Two.ensures.added

@@ -1,9 +1,10 @@
 -- From the last line up, each fits over the plans that were made of the lines below it, or is the last misfit.
 use Rattle.std.proofs.Common.{◌≡◌, [], ◌∷◌, ◌++◌, reverse, refl, sym, ap, ◌∙◌, subst}
 use Rattle.std.proofs.lemmas.List.{nil_from_length, reverse-append}
-use Rattle.plan_space.specs.Nodes.{Tree}
-use Rattle.text_check.specs.Grown.{AreOf, IsOver, StandsOver, kids_list}
-use Rattle.text_check.proofs.Steps.{at_line, forest_at, made_next, misfit_many, misfit_over, none_at, plan_whole, seen_range, some_at}
+use Rattle.std.proofs.lemmas.Option.{MatchOption-at_none, MatchOption-at_some}
+use Rattle.text_check.specs.Grown.{AreOf, kids_list}
+use Rattle.text_check.proofs.GrownKids.{grown_kids_range}
+use Rattle.text_check.proofs.Steps.{at_line, forest_at, made_next, misfit_many, misfit_over, plan_whole}
 use Rattle.text_check.proofs.grow.plan_of.Goals as goal
 
 -- three plans or more are below the line
@@ -11,70 +12,46 @@ pub returns-in_default-take_kids-clause-fault : goal.returns-in_default-take_kid
 returns-in_default-take_kids-clause-fault c =
     let q = c.args.query.now in
     let one = c.outlines_are_one.ensures q in
-    let lines = c.args.lines.now in
-    let in_place = c.requires.in_place in
-    let made = c.loop-line.invariant in
-    let at = at_line q one lines in_place c.loop-line.rest.now c.in-Some.before.now made.done c.in-Some.line.now made.parts
-    c.in-Some.ensures.cases.0 in
-    misfit_many q one lines in_place c.in-Some.before.now made.done c.in-Some.line.now (reverse c.loop-line.grown.items)
-    (reverse c.take_kids.new.grown.items) _ at made.plans c.in_default-take_kids.ensures made.fits refl
+    let at = at_line q one c.args.lines.now c.requires.in_place _ _ _ _ c.loop-line.invariant c.in-Some.ensures.cases.0 in
+    misfit_many q one _ c.requires.in_place _ _ _ at (reverse c.take_kids.new.grown.items) _
+    c.in_default-take_kids.ensures refl
 
 pub over-requires-clause-form : goal.over-requires-clause-form
 over-requires-clause-form c =
-    let made = c.loop-line.invariant in
-    (at_line c.args.query.now (c.outlines_are_one.ensures c.args.query.now) c.args.lines.now c.requires.in_place c.loop-line.rest.now
-    c.in-Some.before.now made.done c.in-Some.line.now made.parts c.in-Some.ensures.cases.0).form
+    let q = c.args.query.now in
+    let one = c.outlines_are_one.ensures q in
+    (at_line q one c.args.lines.now c.requires.in_place _ _ _ _ c.loop-line.invariant c.in-Some.ensures.cases.0).form
 
 pub over-requires-clause-groups : goal.over-requires-clause-groups
 over-requires-clause-groups c =
     let q = c.args.query.now in
     let one = c.outlines_are_one.ensures q in
-    let lines = c.args.lines.now in
-    let in_place = c.requires.in_place in
-    let made = c.loop-line.invariant in
-    let at = at_line q one lines in_place c.loop-line.rest.now c.in-Some.before.now made.done c.in-Some.line.now made.parts
-    c.in-Some.ensures.cases.0 in
-    let forest = forest_at q one lines in_place c.in-Some.before.now made.done c.in-Some.line.now
-    (reverse c.loop-line.grown.items) (reverse c.take_kids.new.grown.items) c.in-Some-take_kids.kids at made.plans
-    c.in-Some-take_kids.ensures in
-    seen_range q (c.groups_are_known.ensures.in_range q) (kids_list c.in-Some-take_kids.kids) forest.trees forest.grown
+    let at = at_line q one c.args.lines.now c.requires.in_place _ _ _ _ c.loop-line.invariant c.in-Some.ensures.cases.0 in
+    let forest = forest_at q one _ c.requires.in_place _ _ _ at _ _ c.in-Some-take_kids.ensures in
+    grown_kids_range q (c.groups_are_known.ensures.in_range q) (kids_list c.in-Some-take_kids.kids) forest.trees
+    forest.grown
 
 -- the line's node stands over none
 pub returns-in_default-2-clause-fault : goal.returns-in_default-2-clause-fault
 returns-in_default-2-clause-fault c =
     let q = c.args.query.now in
     let one = c.outlines_are_one.ensures q in
-    let lines = c.args.lines.now in
-    let in_place = c.requires.in_place in
-    let made = c.loop-line.invariant in
-    let line = c.in-Some.line.now in
-    let at = at_line q one lines in_place c.loop-line.rest.now c.in-Some.before.now made.done line made.parts
-    c.in-Some.ensures.cases.0 in
-    let forest = forest_at q one lines in_place c.in-Some.before.now made.done line (reverse c.loop-line.grown.items)
-    (reverse c.take_kids.new.grown.items) c.in-Some-take_kids.kids at made.plans c.in-Some-take_kids.ensures in
-    misfit_over q one lines in_place c.in-Some.before.now made.done line (reverse c.loop-line.grown.items)
-    (reverse c.take_kids.new.grown.items) c.in-Some-take_kids.kids _ at made.plans c.in-Some-take_kids.ensures made.fits
-    (none_at c.in_ok-plan.field-0 ((t : Tree) → StandsOver q line forest.trees t → ⊥) (IsOver q line forest.trees)
-    c.in_default-2.is (c.in_ok-plan.ensures forest.trees forest.grown)) refl
+    let at = at_line q one c.args.lines.now c.requires.in_place _ _ _ _ c.loop-line.invariant c.in-Some.ensures.cases.0 in
+    let taken = c.in-Some-take_kids.ensures in
+    let forest = forest_at q one _ c.requires.in_place _ _ _ at _ _ taken in
+    misfit_over q one _ c.requires.in_place _ _ _ at _ _ _ taken
+    (MatchOption-at_none _ _ c.in_default-2.is (c.in_ok-plan.ensures forest.trees forest.grown)) refl
 
 -- or its plan comes first
 pub loop-line-preserved : goal.loop-line-preserved
 loop-line-preserved c =
     let q = c.args.query.now in
     let one = c.outlines_are_one.ensures q in
-    let lines = c.args.lines.now in
-    let in_place = c.requires.in_place in
-    let made = c.loop-line.invariant in
-    let line = c.in-Some.line.now in
-    let at = at_line q one lines in_place c.loop-line.rest.now c.in-Some.before.now made.done line made.parts
-    c.in-Some.ensures.cases.0 in
-    let forest = forest_at q one lines in_place c.in-Some.before.now made.done line (reverse c.loop-line.grown.items)
-    (reverse c.take_kids.new.grown.items) c.in-Some-take_kids.kids at made.plans c.in-Some-take_kids.ensures in
-    made_next q one lines in_place c.in-Some.before.now made.done line (reverse c.loop-line.grown.items)
-    c.take_kids.new.grown.items c.push.new.self.items c.in-Some-take_kids.kids c.in-Some-2.plan at made.plans
-    c.in-Some-take_kids.ensures made.fits
-    (some_at c.in_ok-plan.field-0 ((t : Tree) → StandsOver q line forest.trees t → ⊥) (IsOver q line forest.trees)
-    c.in-Some-2.plan c.in-Some-2.is (c.in_ok-plan.ensures forest.trees forest.grown)) c.in_ok-push.ensures.items
+    let at = at_line q one c.args.lines.now c.requires.in_place _ _ _ _ c.loop-line.invariant c.in-Some.ensures.cases.0 in
+    let taken = c.in-Some-take_kids.ensures in
+    let forest = forest_at q one _ c.requires.in_place _ _ _ at _ _ taken in
+    made_next q one _ c.requires.in_place _ _ _ at c.take_kids.new.grown.items c.push.new.self.items _ _ taken
+    (MatchOption-at_some _ _ _ c.in-Some-2.is (c.in_ok-plan.ensures forest.trees forest.grown)) c.in_ok-push.ensures.items
 
 -- no line is left, and the plan of the first is that of all
 pub returns-clause-ok : goal.returns-clause-ok
