@@ -9,7 +9,7 @@ use board_moves::Turned;
 use goal_board::{Board, Right, Seat};
 use goal_rules::Rules;
 use job_scheduler::GoalTurns;
-use job_turns::turn;
+use job_turns::{BoardSearch, turn};
 use place_hints::PlaceHints;
 use request_props::Props;
 use std::marker::Model;
@@ -42,14 +42,11 @@ impl<'q> GoalTurns<Rules<'q>> for QueryTurns<'q> {
         worker: u32,
         hints: &mut PlaceHints,
     ) -> Turned {
-        turn(
-            self.rules.query,
-            self.props,
+        let search = BoardSearch {
+            query: self.rules.query,
+            props: self.props,
             board,
-            seat,
-            right,
-            worker,
-            hints,
-        )
+        };
+        turn(&search, seat, right, worker, hints)
     }
 }

@@ -18,4 +18,5 @@ pub mod Serving
 pub mod Held
 pub mod GoalsHeld
 pub mod JobHeld
+pub mod Staying
 pub mod JoinsMade

@@ -17,7 +17,8 @@ use Rattle.plan_space.specs.Choices.{groups_of}
 use Rattle.plan_space.specs.declared.lines.Line.{Line}
 use Rattle.plan_space.specs.declared.nodes.NodeKind.{NodeKind}
 use Rattle.plan_space.specs.declared.nodes.NodeKind.TheVariants as nodes
-use Rattle.plan_tree.specs.Alternatives.{Asks}
+use Rattle.plan_tree.specs.Alternatives.{Asks, IsAltBy}
+use Rattle.plan_tree.specs.declared.alternatives.Alt.{Alt}
 use Rattle.plan_tree.specs.Costs.{AreRowsOf}
 use Rattle.best_answers.specs.Nodes.{Nodes, IsIn, IsModeOf}
 use Rattle.best_answers.specs.Answers.{lesser}
@@ -57,6 +58,11 @@ pub record TellsAnswer (q : Query) (goal : GoalKind) (cost node : ℕ) : Type 0 
 abbrev pub AnswersAreKnown : Query → Type 0
 AnswersAreKnown q = IsWithinLimits q → (goal : GoalKind) (word cost node : ℕ) → NamesGoal q word goal
     → IsAnswerWord q word cost node → TellsAnswer q goal cost node
+
+-- the best answer that has these words, and costs less than that word, is this one
+abbrev pub TellsBest : (cost node : ℕ) → Option Best → Type 0
+TellsBest cost node found = (best : Option Best) → AreWordsOf best cost node → IfSome best (λ b. b.cost < most_word)
+    → found ≡ best
 
 -- ---- choices
 
@@ -107,6 +113,14 @@ pub record IsWantedNative (q : Query) (native : WantedNative) : Type 0 where
   pub rows : AreRowsOf q native.expr native.rows
   pub line : line_of q native.expr native.mode ≡ Some native.line
   pub few : native.mode < node_modes
+
+-- the mode is there for the request, with that line
+abbrev pub HasAlternative : Query → WantedNative → Type 0
+HasAlternative q native = IsAlternative q native.expr native.wanted native.mode native.line
+
+-- this is what the expression asks in the mode
+abbrev pub IsAltOf : Query → WantedNative → Alt → Type 0
+IsAltOf q native alt = IsAltBy q native.expr native.wanted native.mode alt native.line
 
 -- the goal of what is asked, if something is, is a child of the goal with the word
 abbrev pub IsAskedByChild : Query → ℕ → Option (Key × Request) → Type 0

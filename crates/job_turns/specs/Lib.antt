@@ -5,5 +5,6 @@ pub mod Groups
 pub mod Results
 pub mod Choices
 pub mod Requests
+pub mod Finds
 pub mod Turns
 pub mod Seats

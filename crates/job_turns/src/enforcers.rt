@@ -1,103 +1,79 @@
 //! The enforcers for a request, and the best answer of them.
 #![tactic(auto)]
 
-ghost use Rattle.request_props.specs.Numbered.{IsProps};
-ghost use Rattle.best_answers.specs.Best.{IsBest};
-ghost use Rattle.goal_board.specs.Seats.{hands};
-ghost use Rattle.goal_space.specs.Entries.{NamesGoal};
 ghost use Rattle.goal_space.specs.declared.goals.GoalKind.TheVariants.{Opt};
-ghost use Rattle.job_turns.specs.Searches.{IsAtWork};
-ghost use Rattle.job_turns.specs.Choices.{Chooses, PutsChildren};
-ghost use Rattle.job_turns.specs.Requests.{IsEnforcerGoal, IsEnforcerGoalAt, enforcer_at, first_enforcers};
+ghost use Rattle.job_turns.specs.Searches.{IsAtWork, StaysAtWork};
+ghost use Rattle.job_turns.specs.Seats.{IsTurnOf};
+ghost use Rattle.job_turns.specs.Finds.{FindsBestEnforcer, FindsBestEnforcerAt, TurnPutsChildren};
 
+use crate::board_search::BoardSearch;
+use crate::job_turn::JobTurn;
 use crate::known_best::{KnownBest, await_best, put_child};
 use crate::laws::words_are_known;
 use best_answers::{answers_are_best, best_of_enforcer};
-use board_moves::Job;
-use goal_board::{Board, Hints, Seat};
-use goal_rules::Rules;
+use goal_board::Hints;
 use goal_space::{GoalKind, goals_are_known};
 use plan_tree::enforcer_for;
-use query_core::{KeyParts, Query};
-use request_props::{Props, Request};
+use query_core::KeyParts;
+use request_props::Request;
 
 /// The best answer of the enforcers for the request. None where a goal found every cell taken.
 pub(crate) fn best_enforcer<'q, H: Hints>(
-    query: &Query,
-    props: &Props,
-    board: &Board<Rules<'q>>,
-    seat: &mut Seat<Rules<'q>>,
-    job: &mut Job,
+    search: &BoardSearch<'_, 'q>,
+    turn: &mut JobTurn<'_, 'q, H>,
     group: KeyParts,
     wanted: Request,
-    hints: &mut H,
 ) -> Option<KnownBest>
-    requires props { IsProps query.now props.now }
-    requires at_work { IsAtWork query.now board.now seat.old job.old (H.capacity hints.old) }
-    requires goal { NamesGoal query.now job.old.right.goal (Opt group wanted) }
-    ensures at_work { IsAtWork query.now board.now seat.new job.new (H.capacity hints.new) }
-    ensures chooses { Chooses query.now board.now.setup.capacity (hands seat.old) job.old.right
-        (IsEnforcerGoal query.now group wanted)
-        (IsBest query.now group wanted (first_enforcers wanted))
-        result (hands seat.new) job.new.right }
+    requires at_work { IsAtWork search.now turn.old (H.capacity turn.old.hints.now) }
+    requires goal { IsTurnOf search.now turn.old (Opt group wanted) }
+    ensures at_work { StaysAtWork search.now turn.old turn.new (H.capacity turn.new.hints.now) }
+    ensures chooses { FindsBestEnforcer search.now turn.old group wanted result turn.new }
 {
     // For the proof: the best of two sets is that of both.
     goals_are_known();
     answers_are_best();
-    let first = await_enforcer(query, props, board, seat, job, group, wanted, 0, hints)?;
-    let second = await_enforcer(query, props, board, seat, job, group, wanted, 1, hints)?;
+    let first = await_enforcer(search, turn, group, wanted, 0)?;
+    let second = await_enforcer(search, turn, group, wanted, 1)?;
     Some(first.or(second))
 }
 
 /// Puts in what the enforcers for the request ask for. False where it found every cell taken.
 pub(crate) fn put_enforcers<'q, H: Hints>(
-    query: &Query,
-    props: &Props,
-    board: &Board<Rules<'q>>,
-    seat: &mut Seat<Rules<'q>>,
-    job: &Job,
+    search: &BoardSearch<'_, 'q>,
+    turn: &mut JobTurn<'_, 'q, H>,
     group: KeyParts,
     wanted: Request,
-    hints: &mut H,
 ) -> bool
-    requires props { IsProps query.now props.now }
-    requires at_work { IsAtWork query.now board.now seat.old job.now (H.capacity hints.old) }
-    requires goal { NamesGoal query.now job.now.right.goal (Opt group wanted) }
-    ensures at_work { IsAtWork query.now board.now seat.new job.now (H.capacity hints.new) }
-    ensures puts { PutsChildren query.now board.now.setup.capacity (hands seat.old) job.now.right
-        result (hands seat.new) }
+    requires at_work { IsAtWork search.now turn.old (H.capacity turn.old.hints.now) }
+    requires goal { IsTurnOf search.now turn.old (Opt group wanted) }
+    ensures at_work { StaysAtWork search.now turn.old turn.new (H.capacity turn.new.hints.now) }
+    ensures puts { TurnPutsChildren search.now turn.old result turn.new }
 {
-    if !put_enforcer(query, props, board, seat, job, group, wanted, 0, hints) {
+    if !put_enforcer(search, turn, group, wanted, 0) {
         return false;
     }
-    put_enforcer(query, props, board, seat, job, group, wanted, 1, hints)
+    put_enforcer(search, turn, group, wanted, 1)
 }
 
 // Puts in what the enforcer at this place asks for, if there are so many.
 fn put_enforcer<'q, H: Hints>(
-    query: &Query,
-    props: &Props,
-    board: &Board<Rules<'q>>,
-    seat: &mut Seat<Rules<'q>>,
-    job: &Job,
+    search: &BoardSearch<'_, 'q>,
+    turn: &mut JobTurn<'_, 'q, H>,
     group: KeyParts,
     wanted: Request,
     place: u32,
-    hints: &mut H,
 ) -> bool
-    requires props { IsProps query.now props.now }
-    requires at_work { IsAtWork query.now board.now seat.old job.now (H.capacity hints.old) }
-    requires goal { NamesGoal query.now job.now.right.goal (Opt group wanted) }
-    ensures at_work { IsAtWork query.now board.now seat.new job.now (H.capacity hints.new) }
-    ensures puts { PutsChildren query.now board.now.setup.capacity (hands seat.old) job.now.right
-        result (hands seat.new) }
+    requires at_work { IsAtWork search.now turn.old (H.capacity turn.old.hints.now) }
+    requires goal { IsTurnOf search.now turn.old (Opt group wanted) }
+    ensures at_work { StaysAtWork search.now turn.old turn.new (H.capacity turn.new.hints.now) }
+    ensures puts { TurnPutsChildren search.now turn.old result turn.new }
 {
     // For the proof: the request fits the group.
     goals_are_known();
-    match enforcer_for(query, props, group, wanted, place) {
+    match enforcer_for(search.query, search.props, group, wanted, place) {
         Some(enforced) => {
             let child = GoalKind::Opt(group, enforced.below);
-            put_child(query, board, seat, job, child, hints)
+            put_child(search, turn, child)
         }
         None => true,
     }
@@ -105,37 +81,36 @@ fn put_enforcer<'q, H: Hints>(
 
 // The best answer of the enforcer at this place, if there are so many.
 fn await_enforcer<'q, H: Hints>(
-    query: &Query,
-    props: &Props,
-    board: &Board<Rules<'q>>,
-    seat: &mut Seat<Rules<'q>>,
-    job: &mut Job,
+    search: &BoardSearch<'_, 'q>,
+    turn: &mut JobTurn<'_, 'q, H>,
     group: KeyParts,
     wanted: Request,
     place: u32,
-    hints: &mut H,
 ) -> Option<KnownBest>
-    requires props { IsProps query.now props.now }
-    requires at_work { IsAtWork query.now board.now seat.old job.old (H.capacity hints.old) }
-    requires goal { NamesGoal query.now job.old.right.goal (Opt group wanted) }
-    ensures at_work { IsAtWork query.now board.now seat.new job.new (H.capacity hints.new) }
-    ensures chooses { Chooses query.now board.now.setup.capacity (hands seat.old) job.old.right
-        (IsEnforcerGoalAt group wanted place)
-        (IsBest query.now group wanted (enforcer_at wanted place))
-        result (hands seat.new) job.new.right }
+    requires at_work { IsAtWork search.now turn.old (H.capacity turn.old.hints.now) }
+    requires goal { IsTurnOf search.now turn.old (Opt group wanted) }
+    ensures at_work { StaysAtWork search.now turn.old turn.new (H.capacity turn.new.hints.now) }
+    ensures chooses { FindsBestEnforcerAt search.now turn.old group wanted place result turn.new }
 {
     // For the proof: the request fits the group, a child of a goal has a word, and no node has no answer.
     goals_are_known();
     words_are_known();
     answers_are_best();
-    match enforcer_for(query, props, group, wanted, place) {
+    match enforcer_for(search.query, search.props, group, wanted, place) {
         Some(enforced) => {
             let child = GoalKind::Opt(group, enforced.below);
             let word = child.word();
-            let found = await_best(query, board, seat, job, child, word, hints)?;
+            let found = await_best(search, turn, child, word)?;
             match found {
                 KnownBest::Known(below) => {
-                    let best = best_of_enforcer(query, props, group, wanted, enforced, below);
+                    let best = best_of_enforcer(
+                        search.query,
+                        search.props,
+                        group,
+                        wanted,
+                        enforced,
+                        below,
+                    );
                     Some(KnownBest::Known(best))
                 }
                 KnownBest::Open => Some(KnownBest::Open),

@@ -3,19 +3,19 @@
 
 ghost use Rattle.std.specs.Prelude.{◌≡◌, ◌↔◌, Some};
 ghost use Rattle.query_core.specs.Expressions.{children_of};
-ghost use Rattle.goal_space.specs.Entries.{NamesGoal};
 ghost use Rattle.goal_space.specs.declared.goals.GoalKind.{GoalKind as AnyGoalKind};
 ghost use Rattle.goal_space.specs.Phases.{phase_goal_of_expr, IsOfGroups, IsOfRule, IsRuleAt};
-ghost use Rattle.job_turns.specs.Searches.{IsAtWork};
+ghost use Rattle.job_turns.specs.Searches.{IsAtWork, StaysAtWork};
 ghost use Rattle.job_turns.specs.Works.{IsOneOf};
-ghost use Rattle.job_turns.specs.Seats.{AreChildrenOf, SeatAwaits, SeatWorks};
+ghost use Rattle.job_turns.specs.Seats.{IsTurnOf, AreTurnChildren, TurnAwaits, TurnWorks};
 
+use crate::board_search::BoardSearch;
+use crate::job_turn::JobTurn;
 use crate::laws::words_are_known;
 use crate::operator_rules::rules_to_try;
 use crate::over_query::{await_both, await_if};
-use board_moves::{Job, Progress};
-use goal_board::{Answer, Board, Hints, Seat};
-use goal_rules::Rules;
+use board_moves::Progress;
+use goal_board::{Answer, Hints};
 use goal_space::{GoalKind, Phase};
 use query_core::{Children, ExprParts, Query};
 use xform_rules::Rule;
@@ -26,30 +26,26 @@ pub(crate) const NO_CHOICE: Answer = Answer { cost: 0, node: 0 };
 /// An expression is explored, or implemented, once its children's groups are, and the rules of the phase have brought
 /// their results.
 pub(crate) fn transform_expression<'q, H: Hints>(
-    query: &Query,
-    board: &Board<Rules<'q>>,
-    seat: &mut Seat<Rules<'q>>,
-    job: &mut Job,
+    search: &BoardSearch<'_, 'q>,
+    turn: &mut JobTurn<'_, 'q, H>,
     phase: Phase,
     e: ExprParts,
-    hints: &mut H,
 ) -> Progress
-    requires at_work { IsAtWork query.now board.now seat.old job.old (H.capacity hints.old) }
-    requires goal { NamesGoal query.now job.old.right.goal (phase_goal_of_expr phase e) }
-    ensures at_work { IsAtWork query.now board.now seat.new job.new (H.capacity hints.new) }
-    ensures works { SeatWorks query.now board.now seat.old job.old
-        (phase_goal_of_expr phase e) result seat.new job.new }
+    requires at_work { IsAtWork search.now turn.old (H.capacity turn.old.hints.now) }
+    requires goal { IsTurnOf search.now turn.old (phase_goal_of_expr phase e) }
+    ensures at_work { StaysAtWork search.now turn.old turn.new (H.capacity turn.new.hints.now) }
+    ensures works { TurnWorks search.now turn.old (phase_goal_of_expr phase e) result turn.new }
 {
     // For the proof: the goal's word says what its children are.
     words_are_known();
     let groups = group_goals(phase, e);
-    if !await_both(query, board, seat, job, groups, hints) {
+    if !await_both(search, turn, groups) {
         return Progress::Full;
     }
-    if !await_rules(query, board, seat, job, phase, e, hints) {
+    if !await_rules(search, turn, phase, e) {
         return Progress::Full;
     }
-    job.progress(NO_CHOICE)
+    turn.job.progress(NO_CHOICE)
 }
 
 // The goals of the children's groups in the phase.
@@ -65,24 +61,20 @@ fn group_goals(phase: Phase, e: ExprParts) -> (Option<GoalKind>, Option<GoalKind
 
 // Awaits the rules of the phase at an expression. False where one found every cell taken.
 fn await_rules<'q, H: Hints>(
-    query: &Query,
-    board: &Board<Rules<'q>>,
-    seat: &mut Seat<Rules<'q>>,
-    job: &mut Job,
+    search: &BoardSearch<'_, 'q>,
+    turn: &mut JobTurn<'_, 'q, H>,
     phase: Phase,
     e: ExprParts,
-    hints: &mut H,
 ) -> bool
-    requires at_work { IsAtWork query.now board.now seat.old job.old (H.capacity hints.old) }
-    requires children { AreChildrenOf query.now job.old.right.goal (IsRuleAt query.now phase e) }
-    ensures at_work { IsAtWork query.now board.now seat.new job.new (H.capacity hints.new) }
-    ensures awaits { SeatAwaits query.now board.now seat.old job.old
-        (IsRuleAt query.now phase e) result seat.new job.new }
+    requires at_work { IsAtWork search.now turn.old (H.capacity turn.old.hints.now) }
+    requires children { AreTurnChildren search.now turn.old (IsRuleAt search.now.query.now phase e) }
+    ensures at_work { StaysAtWork search.now turn.old turn.new (H.capacity turn.new.hints.now) }
+    ensures awaits { TurnAwaits search.now turn.old (IsRuleAt search.now.query.now phase e) result turn.new }
 {
     let rules = rules_to_try(phase, e);
     for rule in rules {
-        let goal = rule_goal(query, phase, e, *rule);
-        if !await_if(query, board, seat, job, goal, hints) {
+        let goal = rule_goal(search.query, phase, e, *rule);
+        if !await_if(search, turn, goal) {
             return false;
         }
     }

@@ -3,73 +3,62 @@
 
 ghost use Rattle.std.specs.Prelude.{◌≡◌};
 ghost use Rattle.query_core.specs.Keys.{IsGroup};
-ghost use Rattle.request_props.specs.Numbered.{IsProps};
-ghost use Rattle.goal_space.specs.Entries.{NamesGoal};
 ghost use Rattle.goal_space.specs.declared.goals.GoalKind.TheVariants.{Exp, Imp};
-ghost use Rattle.job_turns.specs.Searches.{IsBoardOf, IsSeat, IsAtWork};
-ghost use Rattle.job_turns.specs.Seats.{ShowsOrigin, SeatSettles, SeatWorks};
+ghost use Rattle.job_turns.specs.Searches.{IsBoardSearch, IsSeat, IsAtWork, StaysAtWork};
+ghost use Rattle.job_turns.specs.Seats.{IsTurnOf, ShowsOrigin, SeatSettles, TurnWorks};
 
+use crate::board_search::BoardSearch;
 use crate::expressions::NO_CHOICE;
 use crate::group_members::{ExploredGroup, ImplementedGroup};
+use crate::job_turn::JobTurn;
 use crate::laws::words_are_known;
 use crate::over_query::await_goal;
-use board_moves::{Job, Progress, Settled, await_found, explore, settle};
-use goal_board::{Board, Hints, Seat};
+use board_moves::{Progress, Settled, await_found, explore, settle};
+use goal_board::{Hints, Seat};
 use goal_rules::{Rules, entries_are_known, explorations_are_known};
 use goal_space::{GoalKind, goals_are_known, goals_ask_for_members};
-use query_core::{KeyParts, Query, candidates_are_known};
-use request_props::Props;
+use query_core::{KeyParts, candidates_are_known};
 use xform_rules::{members_are_candidates, results_are_known};
 
 /// A group is explored once all its logical members are there and explored.
 pub(crate) fn explore_group<'q, H: Hints>(
-    query: &Query,
-    props: &Props,
-    board: &Board<Rules<'q>>,
-    seat: &mut Seat<Rules<'q>>,
-    job: &mut Job,
+    search: &BoardSearch<'_, 'q>,
+    turn: &mut JobTurn<'_, 'q, H>,
     group: KeyParts,
-    hints: &mut H,
 ) -> Progress
-    requires props { IsProps query.now props.now }
-    requires at_work { IsAtWork query.now board.now seat.old job.old (H.capacity hints.old) }
-    requires fresh { job.old.right.waits ≡ 0 }
-    requires goal { NamesGoal query.now job.old.right.goal (Exp group) }
-    ensures at_work { IsAtWork query.now board.now seat.new job.new (H.capacity hints.new) }
-    ensures works { SeatWorks query.now board.now seat.old job.old (Exp group) result seat.new job.new }
+    requires at_work { IsAtWork search.now turn.old (H.capacity turn.old.hints.now) }
+    requires fresh { turn.old.job.right.waits ≡ 0 }
+    requires goal { IsTurnOf search.now turn.old (Exp group) }
+    ensures at_work { StaysAtWork search.now turn.old turn.new (H.capacity turn.new.hints.now) }
+    ensures works { TurnWorks search.now turn.old (Exp group) result turn.new }
 {
     // For the proof: the goal asks for what is found from the group's origin.
     explorations_are_known();
     goals_are_known();
     words_are_known();
     explore(
-        board,
-        seat,
-        job,
+        search.board,
+        turn.seat,
+        &mut turn.job,
         &ExploredGroup {
-            query,
-            props,
+            query: search.query,
+            props: search.props,
             group,
         },
-        hints,
+        turn.hints,
     )
 }
 
 /// A group is implemented once it is explored, and each of its logical members is implemented.
 pub(crate) fn implement_group<'q, H: Hints>(
-    query: &Query,
-    props: &Props,
-    board: &Board<Rules<'q>>,
-    seat: &mut Seat<Rules<'q>>,
-    job: &mut Job,
+    search: &BoardSearch<'_, 'q>,
+    turn: &mut JobTurn<'_, 'q, H>,
     group: KeyParts,
-    hints: &mut H,
 ) -> Progress
-    requires props { IsProps query.now props.now }
-    requires at_work { IsAtWork query.now board.now seat.old job.old (H.capacity hints.old) }
-    requires goal { NamesGoal query.now job.old.right.goal (Imp group) }
-    ensures at_work { IsAtWork query.now board.now seat.new job.new (H.capacity hints.new) }
-    ensures works { SeatWorks query.now board.now seat.old job.old (Imp group) result seat.new job.new }
+    requires at_work { IsAtWork search.now turn.old (H.capacity turn.old.hints.now) }
+    requires goal { IsTurnOf search.now turn.old (Imp group) }
+    ensures at_work { StaysAtWork search.now turn.old turn.new (H.capacity turn.new.hints.now) }
+    ensures works { TurnWorks search.now turn.old (Imp group) result turn.new }
 {
     // For the proof: what is found in cells are members, and physical ones are results at logical ones.
     goals_are_known();
@@ -77,17 +66,17 @@ pub(crate) fn implement_group<'q, H: Hints>(
     entries_are_known();
     members_are_candidates();
     results_are_known();
-    match await_goal(query, board, seat, job, GoalKind::Exp(group), hints) {
+    match await_goal(search, turn, GoalKind::Exp(group)) {
         Progress::Full => Progress::Full,
         Progress::Waiting => Progress::Waiting,
         Progress::Complete(_) => {
             let members = ImplementedGroup {
-                query,
-                props,
+                query: search.query,
+                props: search.props,
                 group,
             };
-            match await_found(board, seat, job, &members, hints) {
-                Some(_) => job.progress(NO_CHOICE),
+            match await_found(search.board, turn.seat, &mut turn.job, &members, turn.hints) {
+                Some(_) => turn.job.progress(NO_CHOICE),
                 None => Progress::Full,
             }
         }
@@ -97,19 +86,16 @@ pub(crate) fn implement_group<'q, H: Hints>(
 /// The double collection of a group that is explored: whether all its logical members are in cells, and the goals that
 /// explore them finished.
 pub fn settled<'q>(
-    query: &Query,
-    props: &Props,
-    board: &Board<Rules<'q>>,
+    search: &BoardSearch<'_, 'q>,
     seat: &mut Seat<Rules<'q>>,
     group: KeyParts,
 ) -> Settled
-    requires board { IsBoardOf query.now board.now }
-    requires props { IsProps query.now props.now }
-    requires seat { IsSeat board.now seat.old }
-    requires group { IsGroup query.now group }
-    requires origin { ShowsOrigin query.now board.now seat.old group }
-    ensures seat { IsSeat board.now seat.new }
-    ensures settles { SeatSettles query.now board.now seat.old group result seat.new }
+    requires search { IsBoardSearch search.now }
+    requires seat { IsSeat search.now.board.now seat.old }
+    requires group { IsGroup search.now.query.now group }
+    requires origin { ShowsOrigin search.now seat.old group }
+    ensures seat { IsSeat search.now.board.now seat.new }
+    ensures settles { SeatSettles search.now seat.old group result seat.new }
 {
     // For the proof: the origin is a member, so the exploration of its group is a goal, and asks for what is found from
     // the origin.
@@ -118,11 +104,11 @@ pub fn settled<'q>(
     goals_ask_for_members();
     explorations_are_known();
     settle(
-        board,
+        search.board,
         seat,
         &ExploredGroup {
-            query,
-            props,
+            query: search.query,
+            props: search.props,
             group,
         },
     )

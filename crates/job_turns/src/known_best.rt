@@ -1,27 +1,25 @@
 //! What is known of the best plan for a request while its goal is at work.
 #![tactic(auto)]
 
-ghost use Rattle.std.specs.Prelude.{◌≡◌, ◌<◌, ◌-◌, ◌^◌, Option, IfSome};
+ghost use Rattle.std.specs.Prelude.{◌≡◌, ◌-◌, ◌^◌};
 ghost use Rattle.query_core.specs.declared.query.Query.{Query as AnyQuery};
-ghost use Rattle.goal_board.specs.Seats.{hands};
-ghost use Rattle.goal_space.specs.Answers.{IsAnswerTo};
 ghost use Rattle.goal_space.specs.Words.{goal_word};
 ghost use Rattle.goal_rules.specs.Answers.{AreWordsOf};
-ghost use Rattle.best_answers.specs.declared.best.Best.{Best as AnyBest};
-ghost use Rattle.job_turns.specs.Searches.{IsAtWork};
-ghost use Rattle.job_turns.specs.Works.{IsChildOf};
-ghost use Rattle.job_turns.specs.Choices.{best_of_both, most_word, AnswersAreKnown, Chooses, IsProgressOf};
-ghost use Rattle.job_turns.specs.Choices.{PutsChildren};
+ghost use Rattle.job_turns.specs.Searches.{IsAtWork, StaysAtWork};
+ghost use Rattle.job_turns.specs.Seats.{IsTurnChild};
+ghost use Rattle.job_turns.specs.Choices.{best_of_both, AnswersAreKnown, IsProgressOf, TellsBest};
+ghost use Rattle.job_turns.specs.Finds.{FindsAnswer, TurnPutsChildren};
 
+use crate::board_search::BoardSearch;
+use crate::job_turn::JobTurn;
 use crate::laws::words_are_known;
 use crate::over_query::await_word;
 use best_answers::{Best, answers_are_best, lesser};
 use board_moves::{Job, Progress, put_goal};
-use goal_board::{Answer, Board, Hints, Inserted, Seat};
-use goal_rules::Rules;
+use goal_board::{Answer, Hints, Inserted};
 use goal_space::{GoalKind, goal_kinds_are_one, goals_are_known};
 use plan_tree::Node;
-use query_core::{Goal, Query};
+use query_core::Goal;
 
 /// What is known of the best answer of some nodes for a request.
 #[derive(Clone, Copy)]
@@ -49,24 +47,20 @@ impl KnownBest {
 
 /// Awaits a child of the goal, which has this word, and tells its answer. None where it found every cell taken.
 pub(crate) fn await_best<'q, H: Hints>(
-    query: &Query,
-    board: &Board<Rules<'q>>,
-    seat: &mut Seat<Rules<'q>>,
-    job: &mut Job,
+    search: &BoardSearch<'_, 'q>,
+    turn: &mut JobTurn<'_, 'q, H>,
     child: GoalKind,
     word: Goal,
-    hints: &mut H,
 ) -> Option<KnownBest>
-    requires at_work { IsAtWork query.now board.now seat.old job.old (H.capacity hints.old) }
-    requires child { IsChildOf query.now job.old.right.goal child }
+    requires at_work { IsAtWork search.now turn.old (H.capacity turn.old.hints.now) }
+    requires child { IsTurnChild search.now turn.old child }
     requires word { goal_word child ≡ word.0 }
-    ensures at_work { IsAtWork query.now board.now seat.new job.new (H.capacity hints.new) }
-    ensures chooses { Chooses query.now board.now.setup.capacity (hands seat.old) job.old.right
-        (λ goal. goal ≡ child) (IsAnswerTo query.now child) result (hands seat.new) job.new.right }
+    ensures at_work { StaysAtWork search.now turn.old turn.new (H.capacity turn.new.hints.now) }
+    ensures chooses { FindsAnswer search.now turn.old child result turn.new }
 {
     // For the proof: the words of an answer tell it.
     answers_are_known();
-    match await_word(query, board, seat, job, child, word, hints) {
+    match await_word(search, turn, child, word) {
         Progress::Complete(answer) => Some(KnownBest::Known(best_of(answer))),
         Progress::Waiting => Some(KnownBest::Open),
         Progress::Full => None,
@@ -75,22 +69,18 @@ pub(crate) fn await_best<'q, H: Hints>(
 
 /// Puts in a child of the goal. False where it found every cell taken.
 pub(crate) fn put_child<'q, H: Hints>(
-    query: &Query,
-    board: &Board<Rules<'q>>,
-    seat: &mut Seat<Rules<'q>>,
-    job: &Job,
+    search: &BoardSearch<'_, 'q>,
+    turn: &mut JobTurn<'_, 'q, H>,
     child: GoalKind,
-    hints: &mut H,
 ) -> bool
-    requires at_work { IsAtWork query.now board.now seat.old job.now (H.capacity hints.old) }
-    requires child { IsChildOf query.now job.now.right.goal child }
-    ensures at_work { IsAtWork query.now board.now seat.new job.now (H.capacity hints.new) }
-    ensures puts { PutsChildren query.now board.now.setup.capacity (hands seat.old) job.now.right
-        result (hands seat.new) }
+    requires at_work { IsAtWork search.now turn.old (H.capacity turn.old.hints.now) }
+    requires child { IsTurnChild search.now turn.old child }
+    ensures at_work { StaysAtWork search.now turn.old turn.new (H.capacity turn.new.hints.now) }
+    ensures puts { TurnPutsChildren search.now turn.old result turn.new }
 {
     // For the proof: a child of a goal has a word.
     words_are_known();
-    match put_goal(board, seat, child.word().0, hints) {
+    match put_goal(search.board, turn.seat, child.word().0, turn.hints) {
         Inserted::Full => false,
         _ => true,
     }
@@ -109,8 +99,7 @@ pub(crate) fn progress_of(job: &Job, found: Option<KnownBest>) -> Progress
 
 // The answer that these words are.
 fn best_of(answer: Answer) -> Option<Best>
-    ensures { (best : Option AnyBest) → AreWordsOf best answer.cost answer.node →
-        IfSome best (λ b. b.cost < most_word) → result ≡ best }
+    ensures { TellsBest answer.cost answer.node result }
 {
     if answer.cost == u64::MAX {
         return None;

@@ -1,99 +1,86 @@
 //! Calls of a board, told over the query that its rules are of.
 #![tactic(auto)]
 
-ghost use Rattle.std.specs.Prelude.{◌≡◌, ℕ, Some};
-ghost use Rattle.job_turns.specs.Searches.{IsAtWork};
-ghost use Rattle.job_turns.specs.Works.{IsChildOf, IsOneOf};
-ghost use Rattle.job_turns.specs.Seats.{AreChildrenOf, SeatAwaitsOne, SeatAwaits};
+ghost use Rattle.std.specs.Prelude.{◌≡◌, Some};
 ghost use Rattle.goal_space.specs.Words.{goal_word};
-ghost use Rattle.goal_space.specs.declared.goals.GoalKind.{GoalKind as AnyGoalKind};
+ghost use Rattle.job_turns.specs.Searches.{IsAtWork, StaysAtWork};
+ghost use Rattle.job_turns.specs.Works.{IsOneOf};
+ghost use Rattle.job_turns.specs.Seats.{IsTurnChild, AreTurnChildren, TurnAwaitsOne, TurnAwaits};
 
+use crate::board_search::BoardSearch;
+use crate::job_turn::JobTurn;
 use crate::laws::words_are_known;
-use board_moves::{Job, Progress};
-use goal_board::{Board, Hints, Seat};
-use goal_rules::Rules;
+use board_moves::Progress;
+use goal_board::Hints;
 use goal_space::GoalKind;
-use query_core::{Goal, Query};
+use query_core::Goal;
 
 /// Awaits a child of the goal.
 pub(crate) fn await_goal<'q, H: Hints>(
-    query: &Query,
-    board: &Board<Rules<'q>>,
-    seat: &mut Seat<Rules<'q>>,
-    job: &mut Job,
+    search: &BoardSearch<'_, 'q>,
+    turn: &mut JobTurn<'_, 'q, H>,
     child: GoalKind,
-    hints: &mut H,
 ) -> Progress
-    requires at_work { IsAtWork query.now board.now seat.old job.old (H.capacity hints.old) }
-    requires child { IsChildOf query.now job.old.right.goal child }
-    ensures at_work { IsAtWork query.now board.now seat.new job.new (H.capacity hints.new) }
-    ensures awaits { SeatAwaitsOne query.now board.now seat.old job.old child result seat.new job.new }
+    requires at_work { IsAtWork search.now turn.old (H.capacity turn.old.hints.now) }
+    requires child { IsTurnChild search.now turn.old child }
+    ensures at_work { StaysAtWork search.now turn.old turn.new (H.capacity turn.new.hints.now) }
+    ensures awaits { TurnAwaitsOne search.now turn.old child result turn.new }
 {
     // For the proof: a child of a goal has a word.
     words_are_known();
-    await_word(query, board, seat, job, child, child.word(), hints)
+    await_word(search, turn, child, child.word())
 }
 
 /// Awaits a child of the goal, which has this word.
 pub(crate) fn await_word<'q, H: Hints>(
-    _query: &Query,
-    board: &Board<Rules<'q>>,
-    seat: &mut Seat<Rules<'q>>,
-    job: &mut Job,
+    search: &BoardSearch<'_, 'q>,
+    turn: &mut JobTurn<'_, 'q, H>,
     _child: GoalKind,
     word: Goal,
-    hints: &mut H,
 ) -> Progress
-    requires at_work { IsAtWork _query.now board.now seat.old job.old (H.capacity hints.old) }
-    requires child { IsChildOf _query.now job.old.right.goal _child }
+    requires at_work { IsAtWork search.now turn.old (H.capacity turn.old.hints.now) }
+    requires child { IsTurnChild search.now turn.old _child }
     requires word { goal_word _child ≡ word.0 }
-    ensures at_work { IsAtWork _query.now board.now seat.new job.new (H.capacity hints.new) }
-    ensures awaits { SeatAwaitsOne _query.now board.now seat.old job.old _child result seat.new job.new }
+    ensures at_work { StaysAtWork search.now turn.old turn.new (H.capacity turn.new.hints.now) }
+    ensures awaits { TurnAwaitsOne search.now turn.old _child result turn.new }
 {
     // For the proof: a child of a goal has a word.
     words_are_known();
-    job.await_child(board, seat, word.0, hints)
+    turn.job
+        .await_child(search.board, turn.seat, word.0, turn.hints)
 }
 
 /// Awaits those of two children that are there. False where one found every cell taken.
 pub(crate) fn await_both<'q, H: Hints>(
-    query: &Query,
-    board: &Board<Rules<'q>>,
-    seat: &mut Seat<Rules<'q>>,
-    job: &mut Job,
+    search: &BoardSearch<'_, 'q>,
+    turn: &mut JobTurn<'_, 'q, H>,
     children: (Option<GoalKind>, Option<GoalKind>),
-    hints: &mut H,
 ) -> bool
-    requires at_work { IsAtWork query.now board.now seat.old job.old (H.capacity hints.old) }
-    requires children { AreChildrenOf query.now job.old.right.goal (IsOneOf children) }
-    ensures at_work { IsAtWork query.now board.now seat.new job.new (H.capacity hints.new) }
-    ensures awaits { SeatAwaits query.now board.now seat.old job.old
-        (IsOneOf children) result seat.new job.new }
+    requires at_work { IsAtWork search.now turn.old (H.capacity turn.old.hints.now) }
+    requires children { AreTurnChildren search.now turn.old (IsOneOf children) }
+    ensures at_work { StaysAtWork search.now turn.old turn.new (H.capacity turn.new.hints.now) }
+    ensures awaits { TurnAwaits search.now turn.old (IsOneOf children) result turn.new }
 {
     let (first, second) = children;
-    if !await_if(query, board, seat, job, first, hints) {
+    if !await_if(search, turn, first) {
         return false;
     }
-    await_if(query, board, seat, job, second, hints)
+    await_if(search, turn, second)
 }
 
 /// Awaits a child, if there is one. False where it found every cell taken.
 pub(crate) fn await_if<'q, H: Hints>(
-    query: &Query,
-    board: &Board<Rules<'q>>,
-    seat: &mut Seat<Rules<'q>>,
-    job: &mut Job,
+    search: &BoardSearch<'_, 'q>,
+    turn: &mut JobTurn<'_, 'q, H>,
     child: Option<GoalKind>,
-    hints: &mut H,
 ) -> bool
-    requires at_work { IsAtWork query.now board.now seat.old job.old (H.capacity hints.old) }
-    requires child { (goal : AnyGoalKind) → child ≡ Some goal → IsChildOf query.now job.old.right.goal goal }
-    ensures at_work { IsAtWork query.now board.now seat.new job.new (H.capacity hints.new) }
-    ensures awaits { SeatAwaits query.now board.now seat.old job.old
-        (λ goal. child ≡ Some goal) result seat.new job.new }
+    requires at_work { IsAtWork search.now turn.old (H.capacity turn.old.hints.now) }
+    requires child { AreTurnChildren search.now turn.old (λ goal. child ≡ Some goal) }
+    ensures at_work { StaysAtWork search.now turn.old turn.new (H.capacity turn.new.hints.now) }
+    ensures awaits { TurnAwaits search.now turn.old (λ goal. child ≡ Some goal) result turn.new }
 {
     match child {
-        Some(goal) => match await_goal(query, board, seat, job, goal, hints) {
+        Some(goal) => match await_goal(search, turn, goal) {
             Progress::Full => false,
             Progress::Complete(_) => true,
             Progress::Waiting => true,

@@ -1,103 +1,99 @@
 //! The members that rules bring: their results, each with the origins of the groups that it stands on.
 #![tactic(auto)]
 
-ghost use Rattle.std.specs.Prelude.{◌≡◌, ◌↔◌, ℕ, Some, IfSome};
+ghost use Rattle.std.specs.Prelude.{◌≡◌, ◌↔◌, Some, IfSome};
 ghost use Rattle.query_core.specs.Keys.{IsGroup};
-ghost use Rattle.query_core.specs.Expressions.{children_of, origin_of, word_of, IsCandidate, IsChild, IsPacked};
-ghost use Rattle.query_core.specs.declared.expressions.ExprParts.{ExprParts as AnyExprParts};
+ghost use Rattle.query_core.specs.Expressions.{children_of, origin_of, IsCandidate, IsChild, IsPacked};
 ghost use Rattle.query_core.specs.declared.words.KeyParts.{KeyParts as AnyKeyParts};
-ghost use Rattle.request_props.specs.Numbered.{IsProps};
-ghost use Rattle.xform_rules.specs.Closure.{IsMember};
-ghost use Rattle.board_rule.specs.Looks.{ShowsEntry};
-ghost use Rattle.goal_board.specs.Seats.{hands};
 ghost use Rattle.goal_space.specs.Asked.{IsBroughtBy};
-ghost use Rattle.goal_space.specs.Children.{IsLogicalIn};
-ghost use Rattle.goal_space.specs.Entries.{NamesGoal};
 ghost use Rattle.goal_space.specs.declared.goals.GoalKind.TheVariants.{Xf};
-ghost use Rattle.goal_rules.specs.Meaning.{meaning_of};
-ghost use Rattle.job_turns.specs.Searches.{HasJob, IsAtWork};
-ghost use Rattle.job_turns.specs.Results.{IsBroughtAt, IsBroughtWith, IsBroughtFrom, IsLeftOf};
-ghost use Rattle.job_turns.specs.Works.{IsAskedOf, IsOneOfGroups, IsOriginOf};
-ghost use Rattle.job_turns.specs.Seats.{AsksForAll, SeatPuts, SeatWorks};
+ghost use Rattle.job_turns.specs.Searches.{HasJob, IsAtWork, StaysAtWork};
+ghost use Rattle.job_turns.specs.Works.{IsOneOfGroups, IsOriginOf};
+ghost use Rattle.job_turns.specs.Results.{IsFromRule, IsFromRuleAt, IsFromBound, IsLeftOf};
+ghost use Rattle.job_turns.specs.Seats.{IsTurnOf, AsksForMember, AsksForAll, Puts, ShowsLogical, TurnWorks};
 
+use crate::board_search::BoardSearch;
 use crate::expressions::NO_CHOICE;
 use crate::group_members::ExploredGroup;
+use crate::job_turn::JobTurn;
 use crate::laws::words_are_known;
 use crate::over_query::await_goal;
 use board_moves::{Job, Progress, next_entry};
-use goal_board::{Board, Hints, Inserted, Seat};
+use goal_board::{Hints, Inserted, Seat};
 use goal_rules::{Rules, entries_are_known};
 use goal_space::{GoalKind, goals_are_known};
-use query_core::{Children, Expr, ExprParts, KeyParts, Query, candidates_are_known};
-use request_props::Props;
+use query_core::{Children, Expr, ExprParts, KeyParts, candidates_are_known};
 use xform_rules::{
     Rule, members_are_candidates, result_at, results_are_candidates, results_are_known,
 };
 
+/// A rule at an expression, with the member that it binds or with none.
+#[derive(Clone, Copy)]
+pub(crate) struct RuleBinding {
+    pub(crate) e: ExprParts,
+    pub(crate) rule: Rule,
+    pub(crate) bound: Option<ExprParts>,
+}
+
 /// Puts in a member that the goal asks for, with the origins of the groups that it stands on. False where one found
 /// every cell taken.
 pub(crate) fn put_brought<'q>(
-    query: &Query,
-    board: &Board<Rules<'q>>,
+    search: &BoardSearch<'_, 'q>,
     seat: &mut Seat<Rules<'q>>,
     job: &Job,
     e: ExprParts,
 ) -> bool
-    requires has_job { HasJob query.now board.now seat.old job.now }
-    requires candidate { IsCandidate query.now e }
-    requires asked { AsksForAll query.now job.now.right.goal (IsBroughtBy query.now e) }
-    ensures has_job { HasJob query.now board.now seat.new job.now }
-    ensures puts { SeatPuts query.now board.now seat.old job.now (IsBroughtBy query.now e) result seat.new }
+    requires has_job { HasJob search.now seat.old job.now }
+    requires candidate { IsCandidate search.now.query.now e }
+    requires asked { AsksForAll search.now job.now (IsBroughtBy search.now.query.now e) }
+    ensures has_job { HasJob search.now seat.new job.now }
+    ensures puts { Puts search.now seat.old job.now (IsBroughtBy search.now.query.now e) result seat.new }
 {
     // For the proof: a candidate has a word, and so have the origins of its children's groups.
     candidates_are_known();
-    if !put_member(query, board, seat, job, e) {
+    if !put_member(search, seat, job, e) {
         return false;
     }
     let (left, right) = groups_below(e);
-    if !put_origin(query, board, seat, job, left) {
+    if !put_origin(search, seat, job, left) {
         return false;
     }
-    put_origin(query, board, seat, job, right)
+    put_origin(search, seat, job, right)
 }
 
 // Puts in a group's origin, if there is a group.
 fn put_origin<'q>(
-    query: &Query,
-    board: &Board<Rules<'q>>,
+    search: &BoardSearch<'_, 'q>,
     seat: &mut Seat<Rules<'q>>,
     job: &Job,
     group: Option<KeyParts>,
 ) -> bool
-    requires has_job { HasJob query.now board.now seat.old job.now }
-    requires packed { (key : AnyKeyParts) → group ≡ Some key → IsPacked (origin_of query.now key) }
-    requires asked { (key : AnyKeyParts) → group ≡ Some key →
-        IsAskedOf query.now job.now.right.goal (origin_of query.now key) }
-    ensures has_job { HasJob query.now board.now seat.new job.now }
-    ensures puts { SeatPuts query.now board.now seat.old job.now
-        (IsOriginOf query.now group) result seat.new }
+    requires has_job { HasJob search.now seat.old job.now }
+    requires packed { (key : AnyKeyParts) → group ≡ Some key → IsPacked (origin_of search.now.query.now key) }
+    requires asked { AsksForAll search.now job.now (IsOriginOf search.now.query.now group) }
+    ensures has_job { HasJob search.now seat.new job.now }
+    ensures puts { Puts search.now seat.old job.now (IsOriginOf search.now.query.now group) result seat.new }
 {
     match group {
-        Some(key) => put_member(query, board, seat, job, query.origin_of_group(key)),
+        Some(key) => put_member(search, seat, job, search.query.origin_of_group(key)),
         None => true,
     }
 }
 
 // Puts in a member that the goal asks for.
 fn put_member<'q>(
-    query: &Query,
-    board: &Board<Rules<'q>>,
+    search: &BoardSearch<'_, 'q>,
     seat: &mut Seat<Rules<'q>>,
     job: &Job,
     e: ExprParts,
 ) -> bool
-    requires has_job { HasJob query.now board.now seat.old job.now }
+    requires has_job { HasJob search.now seat.old job.now }
     requires packed { IsPacked e }
-    requires asked { IsAskedOf query.now job.now.right.goal e }
-    ensures has_job { HasJob query.now board.now seat.new job.now }
-    ensures puts { SeatPuts query.now board.now seat.old job.now (λ other. other ≡ e) result seat.new }
+    requires asked { AsksForMember search.now job.now e }
+    ensures has_job { HasJob search.now seat.new job.now }
+    ensures puts { Puts search.now seat.old job.now (λ other. other ≡ e) result seat.new }
 {
-    match board.insert(seat, Expr::make(e).0) {
+    match search.board.insert(seat, Expr::make(e).0) {
         Inserted::Full => false,
         _ => true,
     }
@@ -117,20 +113,15 @@ fn groups_below(e: ExprParts) -> (Option<KeyParts>, Option<KeyParts>)
 /// The results of a rule at an expression are there once they are put in, each with the origins of the groups that it
 /// stands on. A rule that binds a member waits for the exploration of the left child's group.
 pub(crate) fn apply_rule<'q, H: Hints>(
-    query: &Query,
-    props: &Props,
-    board: &Board<Rules<'q>>,
-    seat: &mut Seat<Rules<'q>>,
-    job: &mut Job,
+    search: &BoardSearch<'_, 'q>,
+    turn: &mut JobTurn<'_, 'q, H>,
     e: ExprParts,
     rule: Rule,
-    hints: &mut H,
 ) -> Progress
-    requires props { IsProps query.now props.now }
-    requires at_work { IsAtWork query.now board.now seat.old job.old (H.capacity hints.old) }
-    requires goal { NamesGoal query.now job.old.right.goal (Xf e rule) }
-    ensures at_work { IsAtWork query.now board.now seat.new job.new (H.capacity hints.new) }
-    ensures works { SeatWorks query.now board.now seat.old job.old (Xf e rule) result seat.new job.new }
+    requires at_work { IsAtWork search.now turn.old (H.capacity turn.old.hints.now) }
+    requires goal { IsTurnOf search.now turn.old (Xf e rule) }
+    ensures at_work { StaysAtWork search.now turn.old turn.new (H.capacity turn.new.hints.now) }
+    ensures works { TurnWorks search.now turn.old (Xf e rule) result turn.new }
 {
     // For the proof: a rule has results with a bound member only where it binds one, and that is of the left child's
     // group.
@@ -138,10 +129,15 @@ pub(crate) fn apply_rule<'q, H: Hints>(
     goals_are_known();
     results_are_known();
     match left_group(e, rule) {
-        Some(left) => bind_members(query, props, board, seat, job, e, rule, left, hints),
+        Some(left) => bind_members(search, turn, e, rule, left),
         None => {
-            if put_results(query, board, seat, job, e, rule, None) {
-                job.progress(NO_CHOICE)
+            let binding = RuleBinding {
+                e,
+                rule,
+                bound: None,
+            };
+            if put_results(search, turn.seat, &turn.job, binding) {
+                turn.job.progress(NO_CHOICE)
             } else {
                 Progress::Full
             }
@@ -152,26 +148,22 @@ pub(crate) fn apply_rule<'q, H: Hints>(
 // Puts in the results of a rule at an expression, with a bound member or without one. False where one found every
 // cell taken.
 fn put_results<'q>(
-    query: &Query,
-    board: &Board<Rules<'q>>,
+    search: &BoardSearch<'_, 'q>,
     seat: &mut Seat<Rules<'q>>,
     job: &Job,
-    e: ExprParts,
-    rule: Rule,
-    bound: Option<ExprParts>,
+    binding: RuleBinding,
 ) -> bool
-    requires has_job { HasJob query.now board.now seat.old job.now }
-    requires e { IsCandidate query.now e }
-    requires bound { IfSome bound (IsCandidate query.now) }
-    requires asked { AsksForAll query.now job.now.right.goal (IsBroughtWith query.now rule e bound) }
-    ensures has_job { HasJob query.now board.now seat.new job.now }
-    ensures puts { SeatPuts query.now board.now seat.old job.now
-        (IsBroughtWith query.now rule e bound) result seat.new }
+    requires has_job { HasJob search.now seat.old job.now }
+    requires e { IsCandidate search.now.query.now binding.e }
+    requires bound { IfSome binding.bound (IsCandidate search.now.query.now) }
+    requires asked { AsksForAll search.now job.now (IsFromRule search.now binding) }
+    ensures has_job { HasJob search.now seat.new job.now }
+    ensures puts { Puts search.now seat.old job.now (IsFromRule search.now binding) result seat.new }
 {
     // For the proof: a rule has no more results than its limit.
     results_are_candidates();
-    for n in 0..rule.limit() {
-        if !put_result(query, board, seat, job, e, rule, bound, n) {
+    for n in 0..binding.rule.limit() {
+        if !put_result(search, seat, job, binding, n) {
             return false;
         }
     }
@@ -180,28 +172,24 @@ fn put_results<'q>(
 
 // Puts in the n-th result, if there are so many.
 fn put_result<'q>(
-    query: &Query,
-    board: &Board<Rules<'q>>,
+    search: &BoardSearch<'_, 'q>,
     seat: &mut Seat<Rules<'q>>,
     job: &Job,
-    e: ExprParts,
-    rule: Rule,
-    bound: Option<ExprParts>,
+    binding: RuleBinding,
     n: u32,
 ) -> bool
-    requires has_job { HasJob query.now board.now seat.old job.now }
-    requires e { IsCandidate query.now e }
-    requires bound { IfSome bound (IsCandidate query.now) }
-    requires asked { AsksForAll query.now job.now.right.goal (IsBroughtAt query.now rule e bound n) }
-    ensures has_job { HasJob query.now board.now seat.new job.now }
-    ensures puts { SeatPuts query.now board.now seat.old job.now
-        (IsBroughtAt query.now rule e bound n) result seat.new }
+    requires has_job { HasJob search.now seat.old job.now }
+    requires e { IsCandidate search.now.query.now binding.e }
+    requires bound { IfSome binding.bound (IsCandidate search.now.query.now) }
+    requires asked { AsksForAll search.now job.now (IsFromRuleAt search.now binding n) }
+    ensures has_job { HasJob search.now seat.new job.now }
+    ensures puts { Puts search.now seat.old job.now (IsFromRuleAt search.now binding n) result seat.new }
 {
     // For the proof: a result of a candidate is one, and there is one of each number.
     results_are_candidates();
     candidates_are_known();
-    match result_at(query, rule, e, bound, n) {
-        Some(other) => put_brought(query, board, seat, job, other),
+    match result_at(search.query, binding.rule, binding.e, binding.bound, n) {
+        Some(other) => put_brought(search, seat, job, other),
         None => true,
     }
 }
@@ -222,22 +210,17 @@ fn left_group(e: ExprParts, rule: Rule) -> Option<KeyParts>
 
 // Awaits the exploration of the left child's group, and puts in the results with each of its logical members bound.
 fn bind_members<'q, H: Hints>(
-    query: &Query,
-    props: &Props,
-    board: &Board<Rules<'q>>,
-    seat: &mut Seat<Rules<'q>>,
-    job: &mut Job,
+    search: &BoardSearch<'_, 'q>,
+    turn: &mut JobTurn<'_, 'q, H>,
     e: ExprParts,
     rule: Rule,
     left: KeyParts,
-    hints: &mut H,
 ) -> Progress
-    requires props { IsProps query.now props.now }
-    requires at_work { IsAtWork query.now board.now seat.old job.old (H.capacity hints.old) }
-    requires goal { NamesGoal query.now job.old.right.goal (Xf e rule) }
+    requires at_work { IsAtWork search.now turn.old (H.capacity turn.old.hints.now) }
+    requires goal { IsTurnOf search.now turn.old (Xf e rule) }
     requires left { IsLeftOf e rule left }
-    ensures at_work { IsAtWork query.now board.now seat.new job.new (H.capacity hints.new) }
-    ensures works { SeatWorks query.now board.now seat.old job.old (Xf e rule) result seat.new job.new }
+    ensures at_work { StaysAtWork search.now turn.old turn.new (H.capacity turn.new.hints.now) }
+    ensures works { TurnWorks search.now turn.old (Xf e rule) result turn.new }
 {
     // For the proof: a bound member is a logical one of the left child's group.
     words_are_known();
@@ -245,12 +228,12 @@ fn bind_members<'q, H: Hints>(
     entries_are_known();
     results_are_known();
     members_are_candidates();
-    match await_goal(query, board, seat, job, GoalKind::Exp(left), hints) {
+    match await_goal(search, turn, GoalKind::Exp(left)) {
         Progress::Full => Progress::Full,
         Progress::Waiting => Progress::Waiting,
         Progress::Complete(_) => {
-            if put_with_members(query, props, board, seat, job, e, rule, left) {
-                job.progress(NO_CHOICE)
+            if put_with_members(search, turn.seat, &turn.job, e, rule, left) {
+                turn.job.progress(NO_CHOICE)
             } else {
                 Progress::Full
             }
@@ -260,40 +243,39 @@ fn bind_members<'q, H: Hints>(
 
 // Puts in the results of a rule with each logical member of a group bound, where the looks show all of these in cells.
 fn put_with_members<'q>(
-    query: &Query,
-    props: &Props,
-    board: &Board<Rules<'q>>,
+    search: &BoardSearch<'_, 'q>,
     seat: &mut Seat<Rules<'q>>,
     job: &Job,
     e: ExprParts,
     rule: Rule,
-    group: KeyParts,
+    left: KeyParts,
 ) -> bool
-    requires props { IsProps query.now props.now }
-    requires has_job { HasJob query.now board.now seat.old job.now }
-    requires known { IsGroup query.now group }
-    requires e { IsCandidate query.now e }
-    requires shown { (bound : AnyExprParts) → IsLogicalIn (IsMember query.now) group bound →
-        ShowsEntry (meaning_of query.now) board.now.setup.capacity (hands seat.old).looks (word_of bound) }
-    requires asked { (bound other : AnyExprParts) → IsLogicalIn (IsMember query.now) group bound →
-        IsBroughtWith query.now rule e (Some bound) other → IsAskedOf query.now job.now.right.goal other }
-    ensures has_job { HasJob query.now board.now seat.new job.now }
-    ensures puts { SeatPuts query.now board.now seat.old job.now
-        (IsBroughtFrom query.now rule e group) result seat.new }
+    requires has_job { HasJob search.now seat.old job.now }
+    requires known { IsGroup search.now.query.now left }
+    requires e { IsCandidate search.now.query.now e }
+    requires shown { ShowsLogical search.now seat.old left }
+    requires asked { AsksForAll search.now job.now (IsFromBound search.now rule e left) }
+    ensures has_job { HasJob search.now seat.new job.now }
+    ensures puts { Puts search.now seat.old job.now (IsFromBound search.now rule e left) result seat.new }
 {
     // For the proof: what is found in cells are members.
     entries_are_known();
     members_are_candidates();
     candidates_are_known();
     let members = ExploredGroup {
-        query,
-        props,
-        group,
+        query: search.query,
+        props: search.props,
+        group: left,
     };
     let mut before = None;
-    while let Some(word) = next_entry(board, seat, &members, before) {
+    while let Some(word) = next_entry(search.board, seat, &members, before) {
         let bound = Expr(word).known_parts();
-        if !put_results(query, board, seat, job, e, rule, Some(bound)) {
+        let binding = RuleBinding {
+            e,
+            rule,
+            bound: Some(bound),
+        };
+        if !put_results(search, seat, job, binding) {
             return false;
         }
         before = Some(word);

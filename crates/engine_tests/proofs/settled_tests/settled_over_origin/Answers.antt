@@ -12,20 +12,20 @@ use Rattle.engine_tests.proofs.settled_tests.settled_over_origin.Goals as goal
 
 pub make-requires : goal.make-requires
 make-requires c =
-    let q = c.args.query.now in
+    let q = c.args.search.now.query.now in
     let known = c.candidates_are_known.ensures in
     let is_group = c.goals_are_known.ensures.candidates q (Exp c.args.group) c.requires.goal in
     subst IsPacked (sym c.origin_of_group.ensures)
     (known.packed q (origin_of q c.args.group) (known.origins q c.args.group is_group))
 
 pub settled-requires-clause-group : goal.settled-requires-clause-group
-settled-requires-clause-group c = c.goals_are_known.ensures.candidates c.args.query.now (Exp c.args.group)
+settled-requires-clause-group c = c.goals_are_known.ensures.candidates c.args.search.now.query.now (Exp c.args.group)
     c.requires.goal
 
 pub settled-requires-clause-origin : goal.settled-requires-clause-origin
 settled-requires-clause-origin c =
-    let q = c.args.query.now in
-    let room = c.args.board.now.setup.capacity in
+    let q = c.args.search.now.query.now in
+    let room = c.args.search.now.board.now.setup.capacity in
     let word = c.make.result.0 in
     let number : word ≡ word_of (origin_of q c.args.group) = c.make.ensures.number
     ∙ ap word_of c.origin_of_group.ensures in

@@ -1,5 +1,5 @@
 -- What an enforcer for the request asks of the same group is a child.
-use Rattle.std.proofs.Common.{ap, inr}
+use Rattle.std.proofs.Common.{refl, ap, inr}
 use Rattle.request_props.specs.declared.request.Request.{Request}
 use Rattle.goal_board.specs.Seats.{hands}
 use Rattle.board_moves.proofs.MovesLemmas.{proceeds_none}
@@ -9,12 +9,12 @@ use Rattle.job_turns.proofs.Enforced.{found_at}
 use Rattle.job_turns.proofs.enforcers.put_enforcer.Goals as goal
 
 pub enforcer_for-requires-clause-fits : goal.enforcer_for-requires-clause-fits
-enforcer_for-requires-clause-fits g c = c.goals_are_known.ensures.requests c.args.query.now
+enforcer_for-requires-clause-fits g c = c.goals_are_known.ensures.requests c.args.search.now.query.now
     (Opt c.args.group c.args.wanted) c.requires.goal.is_goal
 
 pub put_child-requires-clause-child : goal.put_child-requires-clause-child
 put_child-requires-clause-child g c =
-    let q = c.args.query.now in
+    let q = c.args.search.now.query.now in
     let group = c.args.group in
     let wanted = c.args.wanted in
     let fits = c.goals_are_known.ensures.requests q (Opt group wanted) c.requires.goal.is_goal in
@@ -22,5 +22,10 @@ put_child-requires-clause-child g c =
     (Opt group wanted, c.requires.goal, inr (inr (found.e, found.can, ap (λ (r : Request). Opt group r) found.is.is.1)))
 
 pub returns-in-None-clause-puts : goal.returns-in-None-clause-puts
-returns-in-None-clause-puts g c = proceeds_none (IsChildWord c.args.query.now c.args.job.now.right.goal)
-    (hands c.args.seat.now) c.args.job.now.right
+returns-in-None-clause-puts g c =
+    let turn = c.args.turn.now in
+    record {
+      same_right = refl;
+      puts = proceeds_none (IsChildWord c.args.search.now.query.now turn.job.right.goal) (hands turn.seat.now)
+          turn.job.right;
+    }

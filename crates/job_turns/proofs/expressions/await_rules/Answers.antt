@@ -5,14 +5,17 @@ use Rattle.goal_board.specs.Seats.{hands}
 use Rattle.goal_space.specs.Phases.{IsRuleAt}
 use Rattle.goal_space.specs.declared.goals.GoalKind.{GoalKind}
 use Rattle.job_turns.specs.Works.{IsChildOf}
+use Rattle.job_turns.proofs.Staying.{stays_at_first, stays_then}
 use Rattle.job_turns.proofs.Awaited.{IsRuleBefore, rule_more, each_rule, has_none, has_both, has_others, runs_out_after}
 use Rattle.job_turns.proofs.expressions.await_rules.Goals as goal
 
 pub loop-rule-init : goal.loop-rule-init
 loop-rule-init g c = record {
-  at_work = c.requires.at_work;
-  awaited = has_none c.args.query.now c.args.board.now.setup.capacity (hands c.args.seat.now) c.args.job.now.right
-      (IsRuleBefore c.args.query.now c.args.phase c.args.e c.rules_to_try-rules.result.now 0)
+  at_work = stays_at_first c.args.search.now c.args.turn.now _ c.requires.at_work;
+  awaited = has_none c.args.search.now.query.now c.args.search.now.board.now.setup.capacity
+      (hands c.args.turn.now.seat.now)
+      c.args.turn.now.job.right
+      (IsRuleBefore c.args.search.now.query.now c.args.phase c.args.e c.rules_to_try-rules.result.now 0)
       (λ child is. let none = is.1 in
       absurd (omega arith));
 }
@@ -20,42 +23,50 @@ loop-rule-init g c = record {
 pub await_if-requires-clause-child : goal.await_if-requires-clause-child
 await_if-requires-clause-child g c = λ child is.
     let of_rule = (c.rule_goal-goal.ensures child).0 is in
-    subst (λ k. IsChildOf c.args.query.now k child) (sym c.loop-rule.invariant.awaited.proceeds.same_goal)
+    subst (λ k. IsChildOf c.args.search.now.query.now k child) (sym c.loop-rule.invariant.awaited.proceeds.same_goal)
     (c.requires.children child (get_or c.rules_to_try-rules.result.now c.loop-rule.rule-index ExpandNAry, of_rule))
 
 pub returns-then-not-await_if-clause-awaits : goal.returns-then-not-await_if-clause-awaits
 returns-then-not-await_if-clause-awaits g c =
-    runs_out_after c.args.query.now c.args.board.now.setup.capacity (hands c.args.seat.now) c.args.job.now.right
-    (IsRuleBefore c.args.query.now c.args.phase c.args.e c.rules_to_try-rules.result.now c.loop-rule.rule-index)
-    (hands c.loop-rule.seat) c.loop-rule.job.right
-    (hands c.await_if.new.seat) c.await_if.new.job.right c.loop-rule.invariant.awaited c.if-not-await_if.ensures.awaits
+    runs_out_after c.args.search.now.query.now c.args.search.now.board.now.setup.capacity
+    (hands c.args.turn.now.seat.now)
+    c.args.turn.now.job.right
+    (IsRuleBefore c.args.search.now.query.now c.args.phase c.args.e c.rules_to_try-rules.result.now
+    c.loop-rule.rule-index)
+    (hands c.loop-rule.turn.seat.now) c.loop-rule.turn.job.right
+    (hands c.await_if.new.turn.seat.now) c.await_if.new.turn.job.right c.loop-rule.invariant.awaited
+    c.if-not-await_if.ensures.awaits
 
 pub loop-rule-preserved : goal.loop-rule-preserved
 loop-rule-preserved g c =
-    let q = c.args.query.now in
-    let b = c.args.board.now in
+    let q = c.args.search.now.query.now in
+    let b = c.args.search.now.board.now in
     let before = IsRuleBefore q c.args.phase c.args.e c.rules_to_try-rules.result.now c.loop-rule.rule-index in
     let here : GoalKind → Type 0 = λ child. c.rule_goal-goal.result ≡ Some child in
     record {
-      at_work = c.await_if.ensures.at_work;
-      awaited = has_others q b.setup.capacity (hands c.args.seat.now) c.args.job.now.right (λ child. before child
+      at_work = stays_then c.args.search.now c.args.turn.now c.loop-rule.turn c.await_if.new.turn _ _
+          c.loop-rule.invariant.at_work c.await_if.ensures.at_work;
+      awaited = has_others q b.setup.capacity (hands c.args.turn.now.seat.now) c.args.turn.now.job.right
+          (λ child. before child
           ⊎ here child) (IsRuleBefore q c.args.phase c.args.e c.rules_to_try-rules.result.now
           (c.loop-rule.rule-index + 1))
           (λ child is. ⊎_elim (λ old. inl old) (λ new. inr ((c.rule_goal-goal.ensures child).1 new))
           (rule_more q c.args.phase c.args.e c.rules_to_try-rules.result.now c.loop-rule.rule-index child is))
-          (hands c.await_if.new.seat) c.await_if.new.job.right
-          (has_both q b.setup.capacity (hands c.args.seat.now) c.args.job.now.right before here (hands c.loop-rule.seat)
-          c.loop-rule.job.right (hands c.await_if.new.seat) c.await_if.new.job.right c.loop-rule.invariant.awaited
+          (hands c.await_if.new.turn.seat.now) c.await_if.new.turn.job.right
+          (has_both q b.setup.capacity (hands c.args.turn.now.seat.now) c.args.turn.now.job.right before here
+          (hands c.loop-rule.turn.seat.now)
+          c.loop-rule.turn.job.right (hands c.await_if.new.turn.seat.now) c.await_if.new.turn.job.right
+          c.loop-rule.invariant.awaited
           c.if-not-await_if.ensures.awaits);
     }
 
 pub returns-clause-awaits : goal.returns-clause-awaits
 returns-clause-awaits g c =
-    let q = c.args.query.now in
-    let b = c.args.board.now in
-    has_others q b.setup.capacity (hands c.args.seat.now) c.args.job.now.right
+    let q = c.args.search.now.query.now in
+    let b = c.args.search.now.board.now in
+    has_others q b.setup.capacity (hands c.args.turn.now.seat.now) c.args.turn.now.job.right
     (IsRuleBefore q c.args.phase c.args.e c.rules_to_try-rules.result.now c.loop-rule.rule-index)
     (IsRuleAt q c.args.phase c.args.e)
     (λ child is. each_rule q c.args.phase c.args.e c.rules_to_try-rules.result.now c.loop-rule.rule-index child
     (c.rules_to_try-rules.ensures.every q) c.loop-rule-test.false is)
-    (hands c.loop-rule.seat) c.loop-rule.job.right c.loop-rule.invariant.awaited
+    (hands c.loop-rule.turn.seat.now) c.loop-rule.turn.job.right c.loop-rule.invariant.awaited

@@ -1,23 +1,24 @@
 -- A child of a goal of the query is an entry.
-use Rattle.std.proofs.Common.{inr, sym, subst, ◌∙◌}
+use Rattle.std.proofs.Common.{inr, refl, sym, subst, ◌∙◌}
 use Rattle.query_core.specs.declared.query.Query.{Query}
 use Rattle.goal_board.specs.Seats.{hands}
 use Rattle.board_moves.proofs.Working.{proceeds_put, runs_out_at}
 use Rattle.goal_space.specs.Goals.{child_goal}
 use Rattle.goal_space.specs.Entries.{IsEntry, IsChildWord}
 use Rattle.goal_rules.specs.Meaning.{meaning_of}
+use Rattle.job_turns.proofs.Staying.{small_of}
 use Rattle.job_turns.proofs.JobHeld.{job_put}
 use Rattle.job_turns.proofs.known_best.put_child.Goals as goal
 
 pub word-requires : goal.word-requires
 word-requires g c =
-    let child = c.requires.child in (c.words_are_known.ensures.words c.args.query.now
-    c.requires.at_work.has_job.board.small child.0 c.args.child c.args.job.now.right.goal child.1 child.2).1
+    let child = c.requires.child in (c.words_are_known.ensures.words c.args.search.now.query.now
+    (small_of c.requires.at_work.has_job.its) child.0 c.args.child c.args.turn.now.job.right.goal child.1 child.2).1
 
 pub put_goal-requires-clause-enters : goal.put_goal-requires-clause-enters
 put_goal-requires-clause-enters g c κs within =
     let child = c.requires.child in
-    let enters : IsEntry c.args.query.now c.word.result.0 =
+    let enters : IsEntry c.args.search.now.query.now c.word.result.0 =
     inr (
       c.args.child,
       record {
@@ -25,44 +26,62 @@ put_goal-requires-clause-enters g c κs within =
         number = sym c.word.ensures.number;
       },
     ) in
-    subst (λ (q : Query). IsEntry q c.word.result.0) (sym c.requires.at_work.has_job.board.same_query) enters
+    subst (λ (q : Query). IsEntry q c.word.result.0) (sym c.requires.at_work.has_job.its.same_query) enters
 
 pub returns-in-Full-clause-at_work : goal.returns-in-Full-clause-at_work
 returns-in-Full-clause-at_work g c =
     record {
-      has_job = job_put c.args.query.now c.args.board.now c.args.seat.now c.put_goal.new.seat c.args.job.now
-          c.put_goal.ensures.seat c.requires.at_work.has_job c.word.result.0 c.put_goal.result
-          c.put_goal.ensures.answer;
-      hints = c.put_goal.ensures.hints ∙ c.requires.at_work.hints;
+      still = record {
+        has_job = job_put c.args.search.now c.args.turn.now.seat.now c.put_goal.new.seat c.args.turn.now.job
+            c.put_goal.ensures.seat c.requires.at_work.has_job c.word.result.0 c.put_goal.result
+            c.put_goal.ensures.answer;
+        hints = c.put_goal.ensures.hints ∙ c.requires.at_work.hints;
+      };
+      same_seat = refl;
+      same_hints = refl;
     }
 
 pub returns-in-Full-clause-puts : goal.returns-in-Full-clause-puts
 returns-in-Full-clause-puts g c =
-    let q = c.args.query.now in
+    let q = c.args.search.now.query.now in
     let child = c.requires.child in
-    let right = c.args.job.now.right in
-    let known = (c.words_are_known.ensures.words q c.requires.at_work.has_job.board.small child.0 c.args.child
+    let right = c.args.turn.now.job.right in
+    let known = (c.words_are_known.ensures.words q (small_of c.requires.at_work.has_job.its) child.0 c.args.child
     right.goal child.1 child.2).0 in
-    runs_out_at (meaning_of q) c.args.board.now.setup.capacity (IsChildWord q right.goal) (hands c.args.seat.now) right
-    c.word.result.0 (hands c.put_goal.new.seat) (subst (IsChildWord q right.goal) (sym c.word.ensures.number) known)
-    c.in-Full.ensures.answer
+    record {
+      same_right = refl;
+      puts = runs_out_at (meaning_of q) c.args.search.now.board.now.setup.capacity (IsChildWord q right.goal)
+          (hands c.args.turn.now.seat.now) right
+          c.word.result.0 (hands c.put_goal.new.seat) (subst (IsChildWord q right.goal) (sym c.word.ensures.number)
+          known)
+          c.in-Full.ensures.answer;
+    }
 
 pub returns-in_default-clause-at_work : goal.returns-in_default-clause-at_work
 returns-in_default-clause-at_work g c =
     record {
-      has_job = job_put c.args.query.now c.args.board.now c.args.seat.now c.put_goal.new.seat c.args.job.now
-          c.put_goal.ensures.seat c.requires.at_work.has_job c.word.result.0 c.put_goal.result
-          c.put_goal.ensures.answer;
-      hints = c.put_goal.ensures.hints ∙ c.requires.at_work.hints;
+      still = record {
+        has_job = job_put c.args.search.now c.args.turn.now.seat.now c.put_goal.new.seat c.args.turn.now.job
+            c.put_goal.ensures.seat c.requires.at_work.has_job c.word.result.0 c.put_goal.result
+            c.put_goal.ensures.answer;
+        hints = c.put_goal.ensures.hints ∙ c.requires.at_work.hints;
+      };
+      same_seat = refl;
+      same_hints = refl;
     }
 
 pub returns-in_default-clause-puts : goal.returns-in_default-clause-puts
 returns-in_default-clause-puts g c =
-    let q = c.args.query.now in
+    let q = c.args.search.now.query.now in
     let child = c.requires.child in
-    let right = c.args.job.now.right in
-    let known = (c.words_are_known.ensures.words q c.requires.at_work.has_job.board.small child.0 c.args.child
+    let right = c.args.turn.now.job.right in
+    let known = (c.words_are_known.ensures.words q (small_of c.requires.at_work.has_job.its) child.0 c.args.child
     right.goal child.1 child.2).0 in
-    proceeds_put (meaning_of q) c.args.board.now.setup.capacity (IsChildWord q right.goal) (hands c.args.seat.now) right
-    c.word.result.0 c.put_goal.result (hands c.put_goal.new.seat)
-    (subst (IsChildWord q right.goal) (sym c.word.ensures.number) known) c.in_default.not-Full c.put_goal.ensures.answer
+    record {
+      same_right = refl;
+      puts = proceeds_put (meaning_of q) c.args.search.now.board.now.setup.capacity (IsChildWord q right.goal)
+          (hands c.args.turn.now.seat.now) right
+          c.word.result.0 c.put_goal.result (hands c.put_goal.new.seat)
+          (subst (IsChildWord q right.goal) (sym c.word.ensures.number) known) c.in_default.not-Full
+          c.put_goal.ensures.answer;
+    }

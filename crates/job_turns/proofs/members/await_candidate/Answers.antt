@@ -15,12 +15,13 @@ use Rattle.job_turns.proofs.members.await_candidate.Goals as goal
 
 pub goal_here-requires-clause-numbered : goal.goal_here-requires-clause-numbered
 goal_here-requires-clause-numbered g c =
-    (c.goals_are_known.ensures.requests c.args.query.now (Opt c.args.candidate.expr.group c.args.wanted)
+    (c.goals_are_known.ensures.requests c.args.search.now.query.now (Opt c.args.candidate.expr.group c.args.wanted)
     c.requires.goal.is_goal).numbered
 
 pub goal_here-requires-clause-in_range : goal.goal_here-requires-clause-in_range
 goal_here-requires-clause-in_range g c =
-    (c.goals_are_known.ensures.words c.args.query.now c.requires.props.few_lists c.requires.props.few_orders
+    (c.goals_are_known.ensures.words c.args.search.now.query.now c.requires.at_work.has_job.its.props.few_lists
+    c.requires.at_work.has_job.its.props.few_orders
     (Opt c.args.candidate.expr.group c.args.wanted) c.requires.goal.is_goal).1
 
 pub await_best-requires-clause-word : goal.await_best-requires-clause-word
@@ -29,30 +30,34 @@ await_best-requires-clause-word g c = c.in-Some.ensures.goal.1
 pub returns-in-None-clause-at_work : goal.returns-in-None-clause-at_work
 returns-in-None-clause-at_work g c =
     record {
-      has_job = job_looked c.args.query.now c.args.board.now c.args.seat.now c.goal_here.new.seat c.args.job.now
-          c.goal_here.ensures.seat c.requires.at_work.has_job c.goal_here.ensures.looks;
-      hints = c.requires.at_work.hints;
+      still = record {
+        has_job = job_looked c.args.search.now c.args.turn.now.seat.now c.goal_here.new.seat c.args.turn.now.job
+            c.goal_here.ensures.seat c.requires.at_work.has_job c.goal_here.ensures.looks;
+        hints = c.requires.at_work.hints;
+      };
+      same_seat = refl;
+      same_hints = refl;
     }
 
 pub returns-in-None-clause-chooses : goal.returns-in-None-clause-chooses
 returns-in-None-clause-chooses g c =
-    let q = c.args.query.now in
+    let q = c.args.search.now.query.now in
     let e = c.args.candidate.expr in
     let wanted = c.args.wanted in
-    let capacity = c.args.board.now.setup.capacity in
-    let v = hands c.args.seat.now in
+    let capacity = c.args.search.now.board.now.setup.capacity in
+    let v = hands c.args.turn.now.seat.now in
     let none : CanServe (IsMember q) q e.group wanted e → ⊥ = c.in-None.ensures.goal in
-    finds_looked q capacity v c.args.job.now.right (IsGoalOfMember q e wanted) (IsBestOfMember q e wanted)
+    finds_looked q capacity v c.args.turn.now.job.right (IsGoalOfMember q e wanted) (IsBestOfMember q e wanted)
     (Known None) v
-    c.args.job.now.right (hands c.goal_here.new.seat)
-    (finds_none q capacity v c.args.job.now.right (IsGoalOfMember q e wanted) (IsBestOfMember q e wanted)
+    c.args.turn.now.job.right (hands c.goal_here.new.seat)
+    (finds_none q capacity v c.args.turn.now.job.right (IsGoalOfMember q e wanted) (IsBestOfMember q e wanted)
     (λ child is. none is.0) None (best_without q e.group wanted (c.answers_are_best.ensures.none q) e none))
     c.goal_here.ensures.looks
 
 pub await_best-requires-clause-at_work : goal.await_best-requires-clause-at_work
 await_best-requires-clause-at_work g c =
     record {
-      has_job = job_looked c.args.query.now c.args.board.now c.args.seat.now c.goal_here.new.seat c.args.job.now
+      has_job = job_looked c.args.search.now c.args.turn.now.seat.now c.goal_here.new.seat c.args.turn.now.job
           c.goal_here.ensures.seat c.requires.at_work.has_job c.goal_here.ensures.looks;
       hints = c.requires.at_work.hints;
     }
@@ -64,14 +69,14 @@ await_best-requires-clause-child g c =
 
 pub returns-in-Some-clause-chooses : goal.returns-in-Some-clause-chooses
 returns-in-Some-clause-chooses g c =
-    let q = c.args.query.now in
+    let q = c.args.search.now.query.now in
     let e = c.args.candidate.expr in
     let wanted = c.args.wanted in
-    let capacity = c.args.board.now.setup.capacity in
-    let v = hands c.args.seat.now in
-    let before = c.args.job.now.right in
-    let w = hands c.await_best.new.seat in
-    let after = c.await_best.new.job.right in
+    let capacity = c.args.search.now.board.now.setup.capacity in
+    let v = hands c.args.turn.now.seat.now in
+    let before = c.args.turn.now.job.right in
+    let w = hands c.await_best.new.turn.seat.now in
+    let after = c.await_best.new.turn.job.right in
     looks_choose q capacity v before (IsGoalOfMember q e wanted) (IsBestOfMember q e wanted)
     (hands c.goal_here.new.seat)
     c.goal_here.ensures.looks c.await_best.result w after

@@ -13,6 +13,7 @@ use Rattle.goal_rules.specs.Meaning.{meaning_of}
 use Rattle.job_turns.specs.Choices.{FindsBest}
 use Rattle.job_turns.specs.Requests.{IsImplemented, IsMemberGoal, IsBestOfMembers}
 use Rattle.job_turns.specs.declared.known_best.KnownBest.{KnownBest}
+use Rattle.job_turns.proofs.Staying.{stays_at_first, stays_then}
 use Rattle.job_turns.proofs.Finding.{finds_none, finds_others, chooses_none}
 use Rattle.job_turns.proofs.Serving.{IsMemberGoalAmong, IsBestAmong, member_goal_none, best_none, of_candidate}
 use Rattle.job_turns.proofs.Serving.{candidate_here, finds_more, member_goal_all, best_all}
@@ -20,98 +21,105 @@ use Rattle.job_turns.proofs.members.best_member.Goals as goal
 
 pub physical_of-candidates-requires-clause-group : goal.physical_of-candidates-requires-clause-group
 physical_of-candidates-requires-clause-group g c =
-    c.goals_are_known.ensures.candidates c.args.query.now (Opt c.args.group c.args.wanted) c.requires.goal.is_goal
+    c.goals_are_known.ensures.candidates c.args.search.now.query.now (Opt c.args.group c.args.wanted)
+    c.requires.goal.is_goal
 
 pub loop-candidate-init : goal.loop-candidate-init
 loop-candidate-init g c =
-    let q = c.args.query.now in
+    let q = c.args.search.now.query.now in
     let group = c.args.group in
     let wanted = c.args.wanted in
     record {
-      at_work = c.requires.at_work;
-      found = finds_none q c.args.board.now.setup.capacity (hands c.args.seat.now) c.args.job.now.right
+      at_work = stays_at_first c.args.search.now c.args.turn.now _ c.requires.at_work;
+      found = finds_none q c.args.search.now.board.now.setup.capacity (hands c.args.turn.now.seat.now)
+          c.args.turn.now.job.right
           (IsMemberGoalAmong q group wanted []) (IsBestAmong q group wanted []) (member_goal_none q group wanted)
           None (best_none q group wanted (c.answers_are_best.ensures.none q));
     }
 
 pub await_candidate-requires-clause-candidate : goal.await_candidate-requires-clause-candidate
 await_candidate-requires-clause-candidate g c =
-    candidate_here c.args.query.now c.args.group c.args.wanted c.physical_of-candidates.result.now
+    candidate_here c.args.search.now.query.now c.args.group c.args.wanted c.physical_of-candidates.result.now
     c.physical_of-candidates.ensures c.loop-candidate.candidate-index _ c.loop-candidate-test.true
 
 pub await_candidate-requires-clause-goal : goal.await_candidate-requires-clause-goal
 await_candidate-requires-clause-goal g c =
-    let q = c.args.query.now in
+    let q = c.args.search.now.query.now in
     of_candidate q c.args.group c.args.wanted c.physical_of-candidates.result.now c.physical_of-candidates.ensures
     c.loop-candidate.candidate-index _ c.loop-candidate-test.true
-    (λ (x : KeyParts). NamesGoal q c.loop-candidate.job.right.goal (Opt x c.args.wanted))
+    (λ (x : KeyParts). NamesGoal q c.loop-candidate.turn.job.right.goal (Opt x c.args.wanted))
     (subst (λ (word : ℕ). NamesGoal q word (Opt c.args.group c.args.wanted))
     (sym c.loop-candidate.invariant.found.awaited.proceeds.same_goal) c.requires.goal)
 
 pub await_candidate-requires-clause-implemented : goal.await_candidate-requires-clause-implemented
 await_candidate-requires-clause-implemented g c =
-    let q = c.args.query.now in
-    let capacity = c.args.board.now.setup.capacity in
-    let looks = (hands c.loop-candidate.seat).looks in
+    let q = c.args.search.now.query.now in
+    let capacity = c.args.search.now.board.now.setup.capacity in
+    let looks = (hands c.loop-candidate.turn.seat.now).looks in
     of_candidate q c.args.group c.args.wanted c.physical_of-candidates.result.now c.physical_of-candidates.ensures
     c.loop-candidate.candidate-index _ c.loop-candidate-test.true (IsImplemented q capacity looks) (record {
       is_goal = c.requires.implemented.is_goal;
-      finished = still_finished (meaning_of q) capacity (hands c.args.seat.now).looks looks
-          (later_proceeded (IsChildWord q c.args.job.now.right.goal) (hands c.args.seat.now) c.args.job.now.right
-          (hands c.loop-candidate.seat) c.loop-candidate.job.right
+      finished = still_finished (meaning_of q) capacity (hands c.args.turn.now.seat.now).looks looks
+          (later_proceeded (IsChildWord q c.args.turn.now.job.right.goal) (hands c.args.turn.now.seat.now)
+          c.args.turn.now.job.right
+          (hands c.loop-candidate.turn.seat.now) c.loop-candidate.turn.job.right
           c.loop-candidate.invariant.found.awaited.proceeds) (goal_word (Imp c.args.group))
           c.requires.implemented.finished;
     })
 
 pub returns-in_err-other-clause-chooses : goal.returns-in_err-other-clause-chooses
 returns-in_err-other-clause-chooses g c =
-    let q = c.args.query.now in
+    let q = c.args.search.now.query.now in
     let tried = take c.loop-candidate.candidate-index c.physical_of-candidates.result.now in
     rw c.from_residual.ensures
-    (chooses_none q c.args.board.now.setup.capacity (hands c.args.seat.now) c.args.job.now.right
+    (chooses_none q c.args.search.now.board.now.setup.capacity (hands c.args.turn.now.seat.now)
+    c.args.turn.now.job.right
     (IsMemberGoalAmong q c.args.group c.args.wanted tried) (IsBestAmong q c.args.group c.args.wanted tried)
     c.loop-candidate.known_best
-    (hands c.loop-candidate.seat) c.loop-candidate.job.right (hands c.await_candidate.new.seat)
-    c.await_candidate.new.job.right c.loop-candidate.invariant.found c.in_err-other.ensures.chooses)
+    (hands c.loop-candidate.turn.seat.now) c.loop-candidate.turn.job.right (hands c.await_candidate.new.turn.seat.now)
+    c.await_candidate.new.turn.job.right c.loop-candidate.invariant.found c.in_err-other.ensures.chooses)
 
 pub loop-candidate-preserved : goal.loop-candidate-preserved
 loop-candidate-preserved g c =
-    let q = c.args.query.now in
-    let capacity = c.args.board.now.setup.capacity in
+    let q = c.args.search.now.query.now in
+    let capacity = c.args.search.now.board.now.setup.capacity in
     let group = c.args.group in
     let wanted = c.args.wanted in
-    let v = hands c.args.seat.now in
-    let start = c.args.job.now.right in
+    let v = hands c.args.turn.now.seat.now in
+    let start = c.args.turn.now.job.right in
     let candidates = c.physical_of-candidates.result.now in
     let i = c.loop-candidate.candidate-index in
-    let after = c.await_candidate.new.job.right in
-    let w = hands c.await_candidate.new.seat in
+    let after = c.await_candidate.new.turn.job.right in
+    let w = hands c.await_candidate.new.turn.seat.now in
     let fits = c.goals_are_known.ensures.requests q (Opt group wanted) c.requires.goal.is_goal in
     record {
-      at_work = c.await_candidate.ensures.at_work;
+      at_work = stays_then c.args.search.now c.args.turn.now c.loop-candidate.turn c.await_candidate.new.turn _ _
+          c.loop-candidate.invariant.at_work c.await_candidate.ensures.at_work;
       found = subst (λ (known_best : KnownBest). FindsBest q capacity v start
           (IsMemberGoalAmong q group wanted (take (i + 1) candidates))
           (IsBestAmong q group wanted (take (i + 1) candidates)) known_best w after) (sym c.or-known_best.ensures)
           (finds_more q group wanted candidates c.physical_of-candidates.ensures i _ c.loop-candidate-test.true
           capacity v
-          start (c.answers_are_best.ensures.lesser q) c.args.props.now c.requires.props fits c.loop-candidate.known_best
+          start (c.answers_are_best.ensures.lesser q) c.args.search.now.props.now c.requires.at_work.has_job.its.props fits
+          c.loop-candidate.known_best
           c.in_ok-other.other
-          (hands c.loop-candidate.seat) c.loop-candidate.job.right w after c.loop-candidate.invariant.found
+          (hands c.loop-candidate.turn.seat.now) c.loop-candidate.turn.job.right w after
+          c.loop-candidate.invariant.found
           c.in_ok-other.ensures.chooses);
     }
 
 pub returns-clause-chooses : goal.returns-clause-chooses
 returns-clause-chooses g c =
-    let q = c.args.query.now in
-    let capacity = c.args.board.now.setup.capacity in
+    let q = c.args.search.now.query.now in
+    let capacity = c.args.search.now.board.now.setup.capacity in
     let group = c.args.group in
     let wanted = c.args.wanted in
-    let v = hands c.args.seat.now in
-    let start = c.args.job.now.right in
+    let v = hands c.args.turn.now.seat.now in
+    let start = c.args.turn.now.job.right in
     let candidates = c.physical_of-candidates.result.now in
     let tried = take c.loop-candidate.candidate-index candidates in
-    let w = hands c.loop-candidate.seat in
-    let after = c.loop-candidate.job.right in
+    let w = hands c.loop-candidate.turn.seat.now in
+    let after = c.loop-candidate.turn.job.right in
     let found = subst (λ (list : List PhysicalCandidate).
     FindsBest q capacity v start (IsMemberGoalAmong q group wanted list) (IsBestAmong q group wanted list)
     c.loop-candidate.known_best w after)

@@ -22,7 +22,9 @@ pub member_goal-goal-requires-clause-expr : goal.member_goal-goal-requires-claus
 member_goal-goal-requires-clause-expr c =
     let candidate = c.requires.candidate in
     let small = c.expressions_are_one.ensures.small (expr_of c.args.candidate.expr)
-    (c.candidates_are_known.ensures.packed c.args.query.now (expr_of c.args.candidate.expr) candidate.candidate) in
+    (c.candidates_are_known.ensures.packed c.args.search.now.query.now (expr_of c.args.candidate.expr)
+    candidate.candidate)
+    in
     subst FitsExpr candidate.number small
 
 -- one that can't serve isn't looked for
@@ -59,13 +61,13 @@ returns-then-is_made-clause-goal c =
 
 -- any other is looked for
 pub returns-then-holds-clause-looks : goal.returns-then-holds-clause-looks
-returns-then-holds-clause-looks c = only_looks_held c.args.board.now.setup.capacity (hands c.args.seat.now)
+returns-then-holds-clause-looks c = only_looks_held c.args.search.now.board.now.setup.capacity (hands c.args.seat.now)
     c.args.candidate.word c.holds.result (hands c.holds.new.seat) c.holds.ensures.answer
 
 pub returns-then-holds-clause-goal : goal.returns-then-holds-clause-goal
 returns-then-holds-clause-goal c =
-    let q = c.args.query.now in
-    let b = c.args.board.now in
+    let q = c.args.search.now.query.now in
+    let b = c.args.search.now.board.now in
     let v = hands c.args.seat.now in
     let word = c.args.candidate.word in
     let e = c.args.candidate.expr in
@@ -76,7 +78,7 @@ returns-then-holds-clause-goal c =
     c.holds.ensures.answer) in
     let enters = found_enters b.setup.capacity rules_mean b.setup.rules v word at.0 (hands c.holds.new.seat)
     c.holds.ensures.seat.over some_word at.1 in
-    let entry : IsEntry q word = subst (λ (x : Query). IsEntry x word) c.requires.board.same_query enters in (
+    let entry : IsEntry q word = subst (λ (x : Query). IsEntry x word) c.requires.search.same_query enters in (
       record {
         member = c.entries_are_known.ensures.members q (expr_of e) c.requires.candidate.candidate
             (subst (IsEntry q) (sym c.requires.candidate.number) entry);
@@ -88,17 +90,17 @@ returns-then-holds-clause-goal c =
     )
 
 pub returns-else-holds-clause-looks : goal.returns-else-holds-clause-looks
-returns-else-holds-clause-looks c = only_looks_held c.args.board.now.setup.capacity (hands c.args.seat.now)
+returns-else-holds-clause-looks c = only_looks_held c.args.search.now.board.now.setup.capacity (hands c.args.seat.now)
     c.args.candidate.word c.holds.result (hands c.holds.new.seat) c.holds.ensures.answer
 
 pub returns-else-holds-clause-goal : goal.returns-else-holds-clause-goal
 returns-else-holds-clause-goal c =
-    let q = c.args.query.now in
-    let b = c.args.board.now in
+    let q = c.args.search.now.query.now in
+    let b = c.args.search.now.board.now in
     let v = hands c.args.seat.now in
     let e = c.args.candidate.expr in
     λ can. false≢true (sym c.if-holds.false ∙ c.holds.ensures.shown
     (subst (λ (x : Query). ShowsEntry (meaning_of x) b.setup.capacity v.looks c.args.candidate.word)
-    (sym c.requires.board.same_query)
+    (sym c.requires.search.same_query)
     (member_shown q b.setup.capacity v.looks e c.requires.implemented can.member c.args.candidate.word
     c.requires.candidate.number)))

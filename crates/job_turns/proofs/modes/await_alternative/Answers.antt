@@ -19,32 +19,37 @@ use Rattle.job_turns.proofs.modes.await_alternative.Goals as goal
 pub await_asked-requires-clause-asked : goal.await_asked-requires-clause-asked
 await_asked-requires-clause-asked g c =
     let native = c.args.native.now in
-    (children_asked c.args.query.now native.expr native.wanted native.mode c.args.alt native.line c.requires.alternative
-    c.args.job.now.right.goal c.requires.goal).0
+    (children_asked c.args.search.now.query.now native.expr native.wanted native.mode c.args.alt native.line
+    c.requires.alternative
+    c.args.turn.now.job.right.goal c.requires.goal).0
 
 pub await_asked-requires-2-clause-asked : goal.await_asked-requires-2-clause-asked
 await_asked-requires-2-clause-asked g c =
     let native = c.args.native.now in
-    subst (λ (word : ℕ). IsAskedByChild c.args.query.now word c.args.alt.right)
+    subst (λ (word : ℕ). IsAskedByChild c.args.search.now.query.now word c.args.alt.right)
     (sym c.in_ok-left.ensures.chooses.awaited.proceeds.same_goal)
-    (children_asked c.args.query.now native.expr native.wanted native.mode c.args.alt native.line c.requires.alternative
-    c.args.job.now.right.goal c.requires.goal).1
+    (children_asked c.args.search.now.query.now native.expr native.wanted native.mode c.args.alt native.line
+    c.requires.alternative
+    c.args.turn.now.job.right.goal c.requires.goal).1
 
 pub returns-in_err-right-clause-chooses : goal.returns-in_err-right-clause-chooses
 returns-in_err-right-clause-chooses g c =
-    let q = c.args.query.now in
+    let q = c.args.search.now.query.now in
     rw c.from_residual-in_err-right.ensures
-    (chooses_none q c.args.board.now.setup.capacity (hands c.args.seat.now) c.args.job.now.right
-    (IsGoalAsked q c.args.alt.left) (IsBestAsked q c.args.alt.left) c.in_ok-left.left (hands c.await_asked.new.seat)
-    c.await_asked.new.job.right
-    (hands c.await_asked-2.new.seat) c.await_asked-2.new.job.right c.in_ok-left.ensures.chooses
+    (chooses_none q c.args.search.now.board.now.setup.capacity (hands c.args.turn.now.seat.now)
+    c.args.turn.now.job.right
+    (IsGoalAsked q c.args.alt.left) (IsBestAsked q c.args.alt.left) c.in_ok-left.left
+    (hands c.await_asked.new.turn.seat.now)
+    c.await_asked.new.turn.job.right
+    (hands c.await_asked-2.new.turn.seat.now) c.await_asked-2.new.turn.job.right c.in_ok-left.ensures.chooses
     c.in_err-right.ensures.chooses)
 
 pub best_in_mode-best-requires-clause-below : goal.best_in_mode-best-requires-clause-below
 best_in_mode-best-requires-clause-below g c = record {
-  left = subst (IsKnownBest (IsBestAsked c.args.query.now c.args.alt.left) c.await_asked.new.job.right)
+  left = subst (IsKnownBest (IsBestAsked c.args.search.now.query.now c.args.alt.left) c.await_asked.new.turn.job.right)
       c.in-Known-Known.is-0 c.in_ok-left.ensures.chooses.is;
-  right = subst (IsKnownBest (IsBestAsked c.args.query.now c.args.alt.right) c.await_asked-2.new.job.right)
+  right = subst (IsKnownBest (IsBestAsked c.args.search.now.query.now c.args.alt.right)
+      c.await_asked-2.new.turn.job.right)
       c.in-Known-Known.is-1 c.in_ok-right.ensures.chooses.is;
 }
 
@@ -67,34 +72,38 @@ in_mode q capacity v before native alt is left right u middle w after a b known_
 pub returns-in-Known-Known-clause-chooses : goal.returns-in-Known-Known-clause-chooses
 returns-in-Known-Known-clause-chooses g c =
     let native = c.args.native.now in
-    in_mode c.args.query.now c.args.board.now.setup.capacity (hands c.args.seat.now) c.args.job.now.right native
+    in_mode c.args.search.now.query.now c.args.search.now.board.now.setup.capacity (hands c.args.turn.now.seat.now)
+    c.args.turn.now.job.right native
     c.args.alt
-    c.requires.alternative c.in_ok-left.left c.in_ok-right.right (hands c.await_asked.new.seat)
-    c.await_asked.new.job.right
-    (hands c.await_asked-2.new.seat) c.await_asked-2.new.job.right c.in_ok-left.ensures.chooses
+    c.requires.alternative c.in_ok-left.left c.in_ok-right.right (hands c.await_asked.new.turn.seat.now)
+    c.await_asked.new.turn.job.right
+    (hands c.await_asked-2.new.turn.seat.now) c.await_asked-2.new.turn.job.right c.in_ok-left.ensures.chooses
     c.in_ok-right.ensures.chooses (Known c.best_in_mode-best.result)
-    (best_in c.args.query.now native.expr native.wanted native.mode c.args.alt native.line c.requires.alternative
+    (best_in c.args.search.now.query.now native.expr native.wanted native.mode c.args.alt native.line
+    c.requires.alternative
     c.best_in_mode-best.result (c.best_in_mode-best.ensures native.mode c.requires.alternative))
 
 pub returns-in-Known-Open-clause-chooses : goal.returns-in-Known-Open-clause-chooses
 returns-in-Known-Open-clause-chooses g c =
-    in_mode c.args.query.now c.args.board.now.setup.capacity (hands c.args.seat.now) c.args.job.now.right c.args.native.now
-    c.args.alt c.requires.alternative c.in_ok-left.left c.in_ok-right.right (hands c.await_asked.new.seat)
-    c.await_asked.new.job.right
-    (hands c.await_asked-2.new.seat) c.await_asked-2.new.job.right c.in_ok-left.ensures.chooses
+    in_mode c.args.search.now.query.now c.args.search.now.board.now.setup.capacity (hands c.args.turn.now.seat.now)
+    c.args.turn.now.job.right c.args.native.now
+    c.args.alt c.requires.alternative c.in_ok-left.left c.in_ok-right.right (hands c.await_asked.new.turn.seat.now)
+    c.await_asked.new.turn.job.right
+    (hands c.await_asked-2.new.turn.seat.now) c.await_asked-2.new.turn.job.right c.in_ok-left.ensures.chooses
     c.in_ok-right.ensures.chooses Open
-    (subst (IsKnownBest (IsBestAsked c.args.query.now c.args.alt.right) c.await_asked-2.new.job.right)
+    (subst (IsKnownBest (IsBestAsked c.args.search.now.query.now c.args.alt.right) c.await_asked-2.new.turn.job.right)
     c.in-Known-Open.is-1
     c.in_ok-right.ensures.chooses.is)
 
 pub returns-in-Open-default-clause-chooses : goal.returns-in-Open-default-clause-chooses
 returns-in-Open-default-clause-chooses g c =
-    let waits : 1 ≤ c.await_asked.new.job.right.waits =
-    subst (IsKnownBest (IsBestAsked c.args.query.now c.args.alt.left) c.await_asked.new.job.right)
+    let waits : 1 ≤ c.await_asked.new.turn.job.right.waits =
+    subst (IsKnownBest (IsBestAsked c.args.search.now.query.now c.args.alt.left) c.await_asked.new.turn.job.right)
     c.in-Open-default.is-0 c.in_ok-left.ensures.chooses.is in
     let more = c.in_ok-right.ensures.chooses.awaited.proceeds.more_waits in
-    in_mode c.args.query.now c.args.board.now.setup.capacity (hands c.args.seat.now) c.args.job.now.right c.args.native.now
-    c.args.alt c.requires.alternative c.in_ok-left.left c.in_ok-right.right (hands c.await_asked.new.seat)
-    c.await_asked.new.job.right
-    (hands c.await_asked-2.new.seat) c.await_asked-2.new.job.right c.in_ok-left.ensures.chooses
+    in_mode c.args.search.now.query.now c.args.search.now.board.now.setup.capacity (hands c.args.turn.now.seat.now)
+    c.args.turn.now.job.right c.args.native.now
+    c.args.alt c.requires.alternative c.in_ok-left.left c.in_ok-right.right (hands c.await_asked.new.turn.seat.now)
+    c.await_asked.new.turn.job.right
+    (hands c.await_asked-2.new.turn.seat.now) c.await_asked-2.new.turn.job.right c.in_ok-left.ensures.chooses
     c.in_ok-right.ensures.chooses Open (omega arith)

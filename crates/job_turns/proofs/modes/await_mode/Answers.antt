@@ -4,4 +4,5 @@ use Rattle.job_turns.proofs.modes.await_mode.Goals as goal
 
 pub alternative_at-alt-requires-clause-candidate : goal.alternative_at-alt-requires-clause-candidate
 alternative_at-alt-requires-clause-candidate g c =
-    c.members_are_candidates.ensures c.args.query.now (expr_of c.args.native.now.expr) c.requires.native.member
+    c.members_are_candidates.ensures c.args.search.now.query.now (expr_of c.args.native.now.expr)
+    c.requires.native.member

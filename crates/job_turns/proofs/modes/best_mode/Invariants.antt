@@ -1,18 +1,20 @@
 -- The modes before this one were tried.
 use Rattle.std.proofs.Common.{◌-◌}
 use Rattle.goal_board.specs.Seats.{hands}
-use Rattle.job_turns.specs.Searches.{IsAtWork}
+use Rattle.job_turns.specs.Searches.{StaysAtWork}
 use Rattle.job_turns.specs.Choices.{FindsBest}
 use Rattle.job_turns.proofs.Tried.{IsGoalBelow, IsBestBelow}
 use Rattle.job_turns.proofs.modes.best_mode.Given as goal
 
 abbrev pub invariant-modes : goal.invariant-modes
 invariant-modes g l = record {
-  at_work : IsAtWork l.query l.board l.seat l.job (g.H.Hints.capacity l.hints);
-  found : FindsBest l.query l.board.setup.capacity (hands l.initial.seat) l.initial.job.right
-      (IsGoalBelow l.query l.expr l.wanted l.from) (IsBestBelow l.query l.expr l.wanted l.from) l.known_best
-      (hands l.seat)
-      l.job.right;
+  at_work : StaysAtWork l.search l.initial.turn l.turn (g.H.Hints.capacity l.turn.hints.now);
+  found : FindsBest l.search.query.now l.search.board.now.setup.capacity (hands l.initial.turn.seat.now)
+      l.initial.turn.job.right
+      (IsGoalBelow l.search.query.now l.expr l.wanted l.from) (IsBestBelow l.search.query.now l.expr l.wanted l.from)
+      l.known_best
+      (hands l.turn.seat.now)
+      l.turn.job.right;
 }
 
 abbrev pub decreases-modes : goal.decreases-modes

@@ -14,12 +14,14 @@ returns-then-not-await_if-clause-awaits g c = c.if-not-await_if.ensures.awaits
 
 pub await_if-requires-2-clause-child : goal.await_if-requires-2-clause-child
 await_if-requires-2-clause-child g c = λ child is.
-    subst (λ k. IsChildOf c.args.query.now k child) (sym c.if-not-await_if.ensures.awaits.proceeds.same_goal)
+    subst (λ k. IsChildOf c.args.search.now.query.now k child) (sym c.if-not-await_if.ensures.awaits.proceeds.same_goal)
     (c.requires.children child (inr is))
 
 pub returns-clause-awaits : goal.returns-clause-awaits
 returns-clause-awaits g c =
-    awaits_then c.args.query.now c.args.board.now.setup.capacity (hands c.args.seat.now) c.args.job.now.right
+    awaits_then c.args.search.now.query.now c.args.search.now.board.now.setup.capacity (hands c.args.turn.now.seat.now)
+    c.args.turn.now.job.right
     (λ (child : GoalKind). c.args.children.0 ≡ Some child) (λ (child : GoalKind). c.args.children.1 ≡ Some child)
-    (hands c.await_if.new.seat) c.await_if.new.job.right c.await_if-2.result (hands c.await_if-2.new.seat)
-    c.await_if-2.new.job.right c.if-not-await_if.ensures.awaits c.await_if-2.ensures.awaits
+    (hands c.await_if.new.turn.seat.now) c.await_if.new.turn.job.right c.await_if-2.result
+    (hands c.await_if-2.new.turn.seat.now)
+    c.await_if-2.new.turn.job.right c.if-not-await_if.ensures.awaits c.await_if-2.ensures.awaits

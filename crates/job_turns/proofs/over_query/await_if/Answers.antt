@@ -14,31 +14,33 @@ returns-in-Full-clause-awaits g c = c.in-Full.ensures.awaits
 
 pub returns-in-Complete-clause-awaits : goal.returns-in-Complete-clause-awaits
 returns-in-Complete-clause-awaits g c =
-    let b = c.args.board.now in
-    let q = c.args.query.now in
-    has_others q b.setup.capacity (hands c.args.seat.now) c.args.job.now.right
+    let b = c.args.search.now.board.now in
+    let q = c.args.search.now.query.now in
+    has_others q b.setup.capacity (hands c.args.turn.now.seat.now) c.args.turn.now.job.right
     (λ (other : GoalKind). other ≡ c.in-Some.goal)
     (λ (other : GoalKind). c.args.child ≡ Some other)
-    (λ other is. some_is c.in-Some.goal other (sym c.in-Some.is ∙ is)) (hands c.await_goal.new.seat)
-    c.await_goal.new.job.right
-    (has_one q b.setup.capacity (hands c.args.seat.now) c.args.job.now.right c.in-Some.goal
-    (progress.Complete c.in-Complete.field-0) (hands c.await_goal.new.seat) c.await_goal.new.job.right
+    (λ other is. some_is c.in-Some.goal other (sym c.in-Some.is ∙ is)) (hands c.await_goal.new.turn.seat.now)
+    c.await_goal.new.turn.job.right
+    (has_one q b.setup.capacity (hands c.args.turn.now.seat.now) c.args.turn.now.job.right c.in-Some.goal
+    (progress.Complete c.in-Complete.field-0) (hands c.await_goal.new.turn.seat.now) c.await_goal.new.turn.job.right
     (λ is. let bad : ⊥ = cc in bad) c.in-Complete.ensures.awaits)
 
 pub returns-in-Waiting-clause-awaits : goal.returns-in-Waiting-clause-awaits
 returns-in-Waiting-clause-awaits g c =
-    let b = c.args.board.now in
-    let q = c.args.query.now in
-    has_others q b.setup.capacity (hands c.args.seat.now) c.args.job.now.right
+    let b = c.args.search.now.board.now in
+    let q = c.args.search.now.query.now in
+    has_others q b.setup.capacity (hands c.args.turn.now.seat.now) c.args.turn.now.job.right
     (λ (other : GoalKind). other ≡ c.in-Some.goal)
     (λ (other : GoalKind). c.args.child ≡ Some other)
-    (λ other is. some_is c.in-Some.goal other (sym c.in-Some.is ∙ is)) (hands c.await_goal.new.seat)
-    c.await_goal.new.job.right
-    (has_one q b.setup.capacity (hands c.args.seat.now) c.args.job.now.right c.in-Some.goal progress.Waiting
-    (hands c.await_goal.new.seat) c.await_goal.new.job.right (λ is. let bad : ⊥ = cc in bad)
+    (λ other is. some_is c.in-Some.goal other (sym c.in-Some.is ∙ is)) (hands c.await_goal.new.turn.seat.now)
+    c.await_goal.new.turn.job.right
+    (has_one q b.setup.capacity (hands c.args.turn.now.seat.now) c.args.turn.now.job.right c.in-Some.goal
+    progress.Waiting
+    (hands c.await_goal.new.turn.seat.now) c.await_goal.new.turn.job.right (λ is. let bad : ⊥ = cc in bad)
     c.in-Waiting.ensures.awaits)
 
 pub returns-in-None-clause-awaits : goal.returns-in-None-clause-awaits
 returns-in-None-clause-awaits g c =
-    has_none c.args.query.now c.args.board.now.setup.capacity (hands c.args.seat.now) c.args.job.now.right
+    has_none c.args.search.now.query.now c.args.search.now.board.now.setup.capacity (hands c.args.turn.now.seat.now)
+    c.args.turn.now.job.right
     (λ (other : GoalKind). c.args.child ≡ Some other) (λ other is. none_is other c.args.child c.in-None.is is)

@@ -18,49 +18,53 @@ use Rattle.job_turns.proofs.requests.best_plan.Goals as goal
 
 pub best_member-requires-clause-goal : goal.best_member-requires-clause-goal
 best_member-requires-clause-goal g c =
-    subst (λ (word : ℕ). NamesGoal c.args.query.now word (Opt c.args.group c.args.wanted))
+    subst (λ (word : ℕ). NamesGoal c.args.search.now.query.now word (Opt c.args.group c.args.wanted))
     (sym c.in_ok-enforced.ensures.chooses.awaited.proceeds.same_goal) c.requires.goal
 
 pub best_member-requires-clause-implemented : goal.best_member-requires-clause-implemented
 best_member-requires-clause-implemented g c =
-    let q = c.args.query.now in
+    let q = c.args.search.now.query.now in
     record {
       is_goal = c.requires.implemented.is_goal;
-      finished = still_finished (meaning_of q) c.args.board.now.setup.capacity (hands c.args.seat.now).looks
-          (hands c.best_enforcer.new.seat).looks
-          (later_proceeded (IsChildWord q c.args.job.now.right.goal) (hands c.args.seat.now) c.args.job.now.right
-          (hands c.best_enforcer.new.seat) c.best_enforcer.new.job.right
+      finished = still_finished (meaning_of q) c.args.search.now.board.now.setup.capacity
+          (hands c.args.turn.now.seat.now).looks
+          (hands c.best_enforcer.new.turn.seat.now).looks
+          (later_proceeded (IsChildWord q c.args.turn.now.job.right.goal) (hands c.args.turn.now.seat.now)
+          c.args.turn.now.job.right
+          (hands c.best_enforcer.new.turn.seat.now) c.best_enforcer.new.turn.job.right
           c.in_ok-enforced.ensures.chooses.awaited.proceeds)
           (goal_word (Imp c.args.group)) c.requires.implemented.finished;
     }
 
 pub returns-in_err-member-clause-chooses : goal.returns-in_err-member-clause-chooses
 returns-in_err-member-clause-chooses g c =
-    let q = c.args.query.now in
+    let q = c.args.search.now.query.now in
     rw c.from_residual-in_err-member.ensures
-    (chooses_none q c.args.board.now.setup.capacity (hands c.args.seat.now) c.args.job.now.right
+    (chooses_none q c.args.search.now.board.now.setup.capacity (hands c.args.turn.now.seat.now)
+    c.args.turn.now.job.right
     (IsEnforcerGoal q c.args.group c.args.wanted)
     (IsBest q c.args.group c.args.wanted (first_enforcers c.args.wanted)) c.in_ok-enforced.enforced
-    (hands c.best_enforcer.new.seat) c.best_enforcer.new.job.right (hands c.best_member.new.seat)
-    c.best_member.new.job.right c.in_ok-enforced.ensures.chooses c.in_err-member.ensures.chooses)
+    (hands c.best_enforcer.new.turn.seat.now) c.best_enforcer.new.turn.job.right (hands c.best_member.new.turn.seat.now)
+    c.best_member.new.turn.job.right c.in_ok-enforced.ensures.chooses c.in_err-member.ensures.chooses)
 
 pub returns-clause-chooses : goal.returns-clause-chooses
 returns-clause-chooses g c =
-    let q = c.args.query.now in
-    let b = c.args.board.now in
+    let q = c.args.search.now.query.now in
+    let b = c.args.search.now.board.now in
     let group = c.args.group in
     let wanted = c.args.wanted in
-    let v = hands c.args.seat.now in
-    let start = c.args.job.now.right in
-    let w = hands c.best_member.new.seat in
-    let after = c.best_member.new.job.right in
+    let v = hands c.args.turn.now.seat.now in
+    let start = c.args.turn.now.job.right in
+    let w = hands c.best_member.new.turn.seat.now in
+    let after = c.best_member.new.turn.job.right in
     let fits = c.goals_are_known.ensures.requests q (Opt group wanted) c.requires.goal.is_goal in
     let both = finds_both q b.setup.capacity v start (IsEnforcerGoal q group wanted) (IsMemberGoal q group wanted)
     (IsBest q group wanted (first_enforcers wanted)) (IsBestOfMembers q group wanted)
     (IsBest q group wanted all_nodes)
     (best_of_all q group wanted (c.answers_are_best.ensures.lesser q) (c.answers_are_best.ensures.covered q)
-    c.args.props.now c.requires.props fits) c.in_ok-enforced.enforced c.in_ok-member.member
-    (hands c.best_enforcer.new.seat) c.best_enforcer.new.job.right w after c.in_ok-enforced.ensures.chooses
+    c.args.search.now.props.now c.requires.at_work.has_job.its.props fits) c.in_ok-enforced.enforced c.in_ok-member.member
+    (hands c.best_enforcer.new.turn.seat.now) c.best_enforcer.new.turn.job.right w after
+    c.in_ok-enforced.ensures.chooses
     c.in_ok-member.ensures.chooses in
     subst (λ (known_best : KnownBest). FindsBest q b.setup.capacity v start (IsPlanGoal q group wanted)
     (IsBest q group wanted all_nodes) known_best w after) (sym c.or.ensures)

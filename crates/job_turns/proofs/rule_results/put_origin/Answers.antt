@@ -1,6 +1,6 @@
 -- The origin of the group that is there, or of none.
-use Rattle.std.proofs.Common.{◌≡◌, sym, subst, ◌∙◌}
-use Rattle.query_core.specs.Expressions.{IsPacked}
+use Rattle.std.proofs.Common.{◌≡◌, refl, sym, subst, ◌∙◌}
+use Rattle.query_core.specs.Expressions.{origin_of, IsPacked}
 use Rattle.query_core.specs.declared.expressions.ExprParts.{ExprParts}
 use Rattle.goal_board.specs.Seats.{hands}
 use Rattle.job_turns.specs.Works.{IsAskedOf, IsOriginOf}
@@ -12,17 +12,22 @@ put_member-requires-clause-packed c = subst IsPacked (sym c.origin_of_group.ensu
     (c.requires.packed c.in-Some.key c.in-Some.is)
 
 pub put_member-requires-clause-asked : goal.put_member-requires-clause-asked
-put_member-requires-clause-asked c = subst (IsAskedOf c.args.query.now c.args.job.now.right.goal)
-    (sym c.origin_of_group.ensures) (c.requires.asked c.in-Some.key c.in-Some.is)
+put_member-requires-clause-asked c = subst (IsAskedOf c.args.search.now.query.now c.args.job.now.right.goal)
+    (sym c.origin_of_group.ensures)
+    (c.requires.asked (origin_of c.args.search.now.query.now c.in-Some.key) (c.in-Some.key, c.in-Some.is, refl))
 
 pub returns-in-Some-clause-puts : goal.returns-in-Some-clause-puts
 returns-in-Some-clause-puts c =
-    puts_others c.args.query.now c.args.board.now.setup.capacity c.args.job.now.right (hands c.args.seat.now)
-    (λ (e : ExprParts). e ≡ c.origin_of_group.result) (IsOriginOf c.args.query.now c.args.group)
-    (λ e is. origin_is c.args.query.now c.args.group c.in-Some.key c.in-Some.is e is ∙ sym c.origin_of_group.ensures)
+    puts_others c.args.search.now.query.now c.args.search.now.board.now.setup.capacity c.args.job.now.right
+    (hands c.args.seat.now)
+    (λ (e : ExprParts). e ≡ c.origin_of_group.result) (IsOriginOf c.args.search.now.query.now c.args.group)
+    (λ e is. origin_is c.args.search.now.query.now c.args.group c.in-Some.key c.in-Some.is e is ∙ sym
+    c.origin_of_group.ensures)
     c.put_member.result (hands c.put_member.new.seat) c.put_member.ensures.puts
 
 pub returns-in-None-clause-puts : goal.returns-in-None-clause-puts
 returns-in-None-clause-puts c =
-    put_none c.args.query.now c.args.board.now.setup.capacity c.args.job.now.right (hands c.args.seat.now)
-    (IsOriginOf c.args.query.now c.args.group) (no_origin c.args.query.now c.args.group c.in-None.is)
+    put_none c.args.search.now.query.now c.args.search.now.board.now.setup.capacity c.args.job.now.right
+    (hands c.args.seat.now)
+    (IsOriginOf c.args.search.now.query.now c.args.group) (no_origin c.args.search.now.query.now c.args.group
+    c.in-None.is)

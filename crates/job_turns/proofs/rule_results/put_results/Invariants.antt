@@ -7,7 +7,7 @@ use Rattle.job_turns.proofs.rule_results.put_results.Given as goal
 
 abbrev pub invariant-loop-n : goal.invariant-loop-n
 invariant-loop-n l = record {
-  has_job : HasJob l.query l.board l.seat l.job;
-  put : HasPut l.query l.board.setup.capacity (hands l.initial.seat) l.job.right
-      (IsBroughtBelow l.query l.rule l.e l.bound l.n) (hands l.seat);
+  has_job : HasJob l.search l.seat l.job;
+  put : HasPut l.search.query.now l.search.board.now.setup.capacity (hands l.initial.seat) l.job.right
+      (IsBroughtBelow l.search.query.now l.binding.rule l.binding.e l.binding.bound l.n) (hands l.seat);
 }

@@ -8,9 +8,9 @@ use Rattle.job_turns.proofs.rule_results.put_with_members.Given as goal
 
 abbrev pub invariant-loop-word : goal.invariant-loop-word
 invariant-loop-word l = record {
-  has_job : HasJob l.query l.board l.seat l.job;
-  put : HasPut l.query l.board.setup.capacity (hands l.initial.seat) l.job.right
-      (IsBroughtUpTo l.query l.rule l.e l.fn.group l.before) (hands l.seat);
+  has_job : HasJob l.search l.seat l.job;
+  put : HasPut l.search.query.now l.search.board.now.setup.capacity (hands l.initial.seat) l.job.right
+      (IsBroughtUpTo l.search.query.now l.rule l.e l.fn.left l.before) (hands l.seat);
 }
 
 abbrev pub decreases-loop-word : goal.decreases-loop-word
