@@ -4,6 +4,8 @@ pub mod Finishing
 pub mod Told
 pub mod Counting
 pub mod Reading
+pub mod Sorting
+pub mod LookedUp
 pub mod Ending
 pub mod Outcomes
 pub mod Finishers
