@@ -51,7 +51,7 @@ lists_then searched Fact Then follows has =
 pub run_ends : (known : AreKnown) (q : Query) (cells capacity n : ℕ) (outcome : Outcome) (last : Option (ℕ × ℕ × ℕ))
     → IsRun q cells capacity n outcome last → RunEnds q cells n outcome
 run_ends known q cells capacity n (Done searched) last run =
-    let whole = run.gives.is.1.1 in
+    let whole = run.gives.is.2 in
     let cell = (mem_of searched.board).cell in
     record {
       answers = whole.answers;

@@ -32,14 +32,14 @@ use Rattle.job_outcome.specs.Searched.{is_member_word, told_of, answers_of, AreL
 use Rattle.job_outcome.specs.declared.searched.Lists.{Lists}
 use Rattle.job_outcome.specs.declared.searched.Searched.{Searched}
 use Rattle.goal_board.specs.declared.answers.Finished.{Finished}
-use Rattle.job_outcome.proofs.Lists.{all_zip_maps, contains_filter, contains_map, distinct_filter}
+use Rattle.job_outcome.proofs.ListLemmas.{all_zip_maps, contains_filter, contains_map, distinct_filter}
 use Rattle.job_outcome.proofs.Places.{all_below, all_cells, cells_differ, contains_below, contains_cell, goal_in}
 use Rattle.job_outcome.proofs.Places.{goals_differ}
 use Rattle.job_outcome.proofs.Finishing.{all_finished, all_stand, goal_at, high_at, member_entry, taken_at}
 use Rattle.job_outcome.proofs.Told.{tells}
 use Rattle.job_outcome.proofs.Counting.{few_below}
 use Rattle.job_outcome.proofs.Reading.{ReadsSearch, root_finished}
-use Rattle.job_outcome.proofs.Sorting.{in_order}
+use Rattle.job_outcome.proofs.Listed.{some_lists}
 
 -- some goal, for where a list ends
 nothing : Finished
@@ -62,30 +62,6 @@ words_of_told (f ∷ finished) = ap (λ l. f.goal ∷ l) (words_of_told finished
 ascending : (xs ys : List ℕ) → IsPermutation xs ys → IsDistinct nat_eq xs → IsNonDecreasing ys → IsStrictlyIncreasing ys
 ascending xs ys same differ rise = IsStrictlyIncreasing-from_distinct ys rise
     (IsDistinct-IsPermutation nat_eq nat_eq_equiv.symm xs ys same differ)
-
--- a search has lists
-some_lists : (searched : Searched) → (lists : Lists) × AreListsOf searched lists
-some_lists searched =
-    let (finished, same, rise) = in_order goal_in (finished_of searched.board) in
-    let (members, same_members, rising) = in_order (λ (x : ℕ). x)
-    (filter is_member_word (cells_of searched.board)) in (
-      record {
-        members = members;
-        goals = map goal_in finished;
-        answers = record { list = map told_of finished };
-        who = map (λ (f : Finished). f.who) finished;
-      },
-      record {
-        finished = finished;
-        same = same;
-        ascending = rise;
-        same_members = same_members;
-        rising = rising;
-        goals_are = refl;
-        answers_are = refl;
-        who_are = refl;
-      },
-    )
 
 module _ (q : Query) (capacity place : ℕ) (done : List Ended) (searched : Searched)
     (its : ReadsSearch q capacity place done searched.board) (has : HasFinishedRoot q searched.board) where

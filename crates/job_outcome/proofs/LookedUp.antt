@@ -1,5 +1,5 @@
 -- What the look-up of a goal on a finished search's board finds.
-use Rattle.std.proofs.Common.{◌≡◌, ℕ, ◌^◌, ◌<◌, ◌≤◌, List, map, Contains, refl, sym, subst, ◌∙◌}
+use Rattle.std.proofs.Common.{◌≡◌, ℕ, ◌^◌, ◌<◌, ◌≤◌, List, Contains, refl, sym, subst, ◌∙◌}
 use Rattle.std.proofs.lemmas.List.Elements.{All-contains}
 use Rattle.goal_space.specs.Answers.{words_told}
 use Rattle.goal_board.specs.Closed.{finished_at, finished_below}
@@ -8,7 +8,7 @@ use Rattle.goal_board.specs.declared.answers.Answer.{Answer}
 use Rattle.goal_board.specs.declared.answers.Finished.{Finished}
 use Rattle.job_outcome.specs.Searched.{told_with, told_of, answers_of}
 use Rattle.job_outcome.specs.declared.searched.Searched.{Searched}
-use Rattle.job_outcome.proofs.Lists.{contains_map, contains_unmap}
+use Rattle.job_outcome.proofs.ListLemmas.{contains_map, contains_unmap}
 use Rattle.job_outcome.proofs.Places.{all_below, contains_below, goal_in}
 use Rattle.job_outcome.proofs.Ending.{words_of_told}
 

@@ -45,14 +45,15 @@ module _ {A : Type 0} (n : A → ℕ) where
     below = λ k d before. absurd (omega (arith, before));
     above = λ k d from within. absurd (omega (arith, within));
   }
-  goes_in x (y ∷ ys) rise = by_test (nat_le (n x) (n y)) refl
+  goes_in x (y ∷ ys) rise =
+      by_test (nat_le (n x) (n y)) refl (goes_in x ys (λ i j d ordered within.
+      rise (suc i) (suc j) d (omega (arith, ordered)) (omega (arith, within))))
     where
-      by_test : (b : Bool) → nat_le (n x) (n y) ≡ b → GoesIn x (y ∷ ys)
-      by_test true is = goes_first x y ys rise (leb-true (n x) (n y) is)
-      by_test false is =
+      by_test : (b : Bool) → nat_le (n x) (n y) ≡ b → GoesIn x ys → GoesIn x (y ∷ ys)
+      by_test true is behind = goes_first x y ys rise (leb-true (n x) (n y) is)
+      by_test false is behind =
           let more : n y < n x = leb-false (n x) (n y) is in
-          goes_behind x y ys (omega (arith, more)) (goes_in x ys (λ i j d ordered within.
-          rise (suc i) (suc j) d (omega (arith, ordered)) (omega (arith, within))))
+          goes_behind x y ys (omega (arith, more)) behind
 
   -- some order of the elements doesn't fall
   pub in_order : (xs : List A) → (ys : List A) × IsPermutation xs ys × IsNonDecreasingBy n ys

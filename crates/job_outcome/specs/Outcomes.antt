@@ -3,7 +3,6 @@ use Rattle.std.specs.Prelude.{◌≡◌, ℕ, ◌+◌, ◌<◌, ◌≤◌, true,
 use Rattle.std.specs.List.{All, AllZip, IsDistinct}
 use Rattle.query_core.specs.declared.query.Query.{Query}
 use Rattle.xform_rules.specs.Closure.{IsClosureOf}
-use Rattle.plan_tree.specs.declared.answers.Answered.{Answered}
 use Rattle.goal_space.specs.Words.{goal_word}
 use Rattle.goal_space.specs.Goals.{root_goal_of}
 use Rattle.goal_space.specs.Entries.{IsEntry, IsGoalWord}
@@ -12,7 +11,7 @@ use Rattle.plan_report.specs.Sources.{HasAnswers}
 use Rattle.goal_children.specs.Listed.{AreGoalsOf}
 use Rattle.board_rule.specs.Records.{Ended}
 use Rattle.board_rule.specs.Words.{cell_word}
-use Rattle.board_rule.specs.Looks.{Looked}
+use Rattle.board_rule.specs.Looks.{Looked, ShowsClosed, ShowsFull}
 use Rattle.board_rule.specs.Seats.{Among}
 use Rattle.board_rule.specs.declared.hands.Hands.{Hands}
 use Rattle.goal_board.specs.Closed.{IsFirstReady}
@@ -126,3 +125,18 @@ abbrev pub IsEnd : Outcome → Type 0
 IsEnd (Done searched) = ⊤
 IsEnd (Full told) = ⊤
 IsEnd (Unfinished goal) = ⊥
+
+-- ---- what is told of a board
+
+-- some seat closed the board of the query's search
+abbrev pub IsSearchBoard : Query → (capacity : ℕ) → ClosedBoard → Type 0
+IsSearchBoard q capacity board = (place : ℕ) × (v : Hands Rules) × ClosesSearch q capacity place v board
+
+-- by whichever seat closed it: what the search gave, and what that seat saw of it
+pub record TellsOutcome (q : Query) (capacity : ℕ) (board : ClosedBoard) (gave : Outcome) : Type 0 where
+  pub outcome : (place : ℕ) (v : Hands Rules) → ClosesSearch q capacity place v board
+      → IsOutcome q capacity v.done board gave
+  pub finished : (place : ℕ) (v : Hands Rules) → ClosesSearch q capacity place v board → ShowsClosed v.looks place
+      → IsDoneCase gave
+  pub full : (place : ℕ) (v : Hands Rules) → ClosesSearch q capacity place v board → ShowsFull v.looks
+      → IsFullCase gave

@@ -1,13 +1,10 @@
 //! What a search gave: that all goals are finished, or that the board was full, or that goals are left.
 #![tactic(auto)]
 
-ghost use Rattle.std.specs.Prelude.{◌≡◌, ℕ};
-ghost use Rattle.board_rule.specs.Looks.{ShowsClosed, ShowsFull};
-ghost use Rattle.board_rule.specs.declared.hands.Hands.{Hands};
-ghost use Rattle.goal_rules.specs.declared.rules.Rules.{Rules as AnyRules};
+ghost use Rattle.std.specs.Prelude.{◌≡◌};
 ghost use Rattle.goal_space.specs.Words.{goal_word};
 ghost use Rattle.goal_space.specs.Goals.{root_goal_of};
-ghost use Rattle.job_outcome.specs.Outcomes.{ClosesSearch, IsOutcome, IsDoneCase, IsFullCase};
+ghost use Rattle.job_outcome.specs.Outcomes.{HasFinishedRoot, IsSearchBoard, TellsOutcome};
 
 use crate::searched::Searched;
 use best_answers::answers_are_best;
@@ -30,27 +27,29 @@ pub enum Outcome {
 
 /// What a closed board held, whose root's goal was put in.
 pub fn outcome_of(rules: &Rules<'_>, root: Goal, capacity: u32, board: ClosedBoard) -> Outcome
-    requires closed { (place : ℕ) × (v : Hands AnyRules) × ClosesSearch rules.now.query.now capacity place v board }
+    requires board { IsSearchBoard rules.now.query.now capacity board }
     requires root { root.0 ≡ goal_word (root_goal_of rules.now.query.now) }
-
-    // What it is, by whichever seat closed the board.
-    ensures outcome { (place : ℕ) (v : Hands AnyRules) → ClosesSearch rules.now.query.now capacity place v board
-        → IsOutcome rules.now.query.now capacity v.done board result }
-
-    // What that seat saw.
-    ensures finished { (place : ℕ) (v : Hands AnyRules) → ClosesSearch rules.now.query.now capacity place v board
-        → ShowsClosed v.looks place → IsDoneCase result }
-    ensures full { (place : ℕ) (v : Hands AnyRules) → ClosesSearch rules.now.query.now capacity place v board
-        → ShowsFull v.looks → IsFullCase result }
+    ensures { TellsOutcome rules.now.query.now capacity board result }
 {
     // For the proof: what finished goals promise, members and goals by their words, and what plans cost.
     goals_are_known();
     goals_ask_for_members();
     members_are_known();
     answers_are_best();
-    if board.answer(root.0).is_some() {
-        return Outcome::Done(Searched { board });
+    match board.answer(root.0) {
+        Some(_) => Outcome::Done(Searched { board }),
+        None => left_open(rules, capacity, board),
     }
+}
+
+// The same where the root's goal isn't finished.
+fn left_open(rules: &Rules<'_>, capacity: u32, board: ClosedBoard) -> Outcome
+    requires board { IsSearchBoard rules.now.query.now capacity board }
+    requires open_root { HasFinishedRoot rules.now.query.now board → ⊥ }
+    ensures { TellsOutcome rules.now.query.now capacity board result }
+{
+    // For the proof: members and goals by their words.
+    members_are_known();
     if board.is_full() {
         return Outcome::Full { capacity };
     }

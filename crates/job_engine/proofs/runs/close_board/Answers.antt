@@ -3,8 +3,8 @@ use Rattle.goal_board.specs.Seats.{hands}
 use Rattle.job_engine.proofs.Ending.{last_closes, last_run}
 use Rattle.job_engine.proofs.runs.close_board.Goals as goal
 
-pub outcome_of-requires-clause-closed : goal.outcome_of-requires-clause-closed
-outcome_of-requires-clause-closed c = (
+pub outcome_of-requires-clause-board : goal.outcome_of-requires-clause-board
+outcome_of-requires-clause-board c = (
   c.args.engine.scheduler.root,
   hands c.args.worker.seat,
   last_closes c.args.engine c.args._n c.args.worker c.requires c.close-board.result c.close-board.ensures,

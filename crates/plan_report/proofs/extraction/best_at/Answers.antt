@@ -10,20 +10,20 @@ use Rattle.plan_report.proofs.extraction.best_at.Goals as goal
 -- every goal of the query has an answer
 pub unreachable-requires : goal.unreachable-requires
 unreachable-requires g c =
-    c.in-None.ensures (subst (Contains (words_told (g.S.AnswerSource.answers c.args.source.now)))
+    c.in-None.ensures.none (subst (Contains (words_told (g.S.AnswerSource.answers c.args.source.now)))
     (sym c.word-goal.ensures.number) (c.requires.answers.complete (goal_of c.args.at) c.requires.goal))
 
 -- what is told under the goal's word is the answer of this goal and of no other
-pub returns-in-Some : goal.returns-in-Some
-returns-in-Some g c =
+pub returns : goal.returns
+returns g c =
     let q = c.args.query.now in
     let here = goal_of c.args.at in
-    let (place, near, at) = c.in-Some.ensures.0 in
+    let (place, near, at) = c.in-Some.ensures.found.0 in
     let found : TellsAnswer q c.in-Some.told =
     subst (TellsAnswer q) at (c.requires.answers.sound place c.in-Some.told near) in
     let is = found.1 in
     let few = c.goals_are_known.ensures.words q c.requires.props.few_lists c.requires.props.few_orders in
-    let word : goal_word found.0 ≡ goal_word here = is.names.number ∙ ap (λ g. g.0) c.in-Some.ensures.1
+    let word : goal_word found.0 ≡ goal_word here = is.names.number ∙ ap (λ g. g.0) c.in-Some.ensures.found.1
     ∙ c.word-goal.ensures.number in
     let same = c.goal_kinds_are_one.ensures.one found.0 here (few found.0 is.names.is_goal) (few here c.requires.goal)
     word in

@@ -3,8 +3,8 @@ use Rattle.goal_board.specs.Seats.{hands}
 use Rattle.job_engine.proofs.Closing.{closes_search}
 use Rattle.job_engine.proofs.engine.Engine.close.Goals as goal
 
-pub outcome_of-requires-clause-closed : goal.outcome_of-requires-clause-closed
-outcome_of-requires-clause-closed c = (
+pub outcome_of-requires-clause-board : goal.outcome_of-requires-clause-board
+outcome_of-requires-clause-board c = (
   c.args.self.scheduler.root,
   hands c.args.worker.seat,
   closes_search c.args.self (hands c.args.worker.seat) c.close.result c.requires.worker.its.root_shown.stands
