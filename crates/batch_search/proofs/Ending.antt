@@ -4,9 +4,8 @@ use Rattle.std.proofs.lemmas.Option.{slice_get-get_or}
 use Rattle.query_core.specs.declared.query.Query.{Query}
 use Rattle.request_props.specs.Numbered.{IsProps}
 use Rattle.request_props.specs.declared.props.Props.{Props}
-use Rattle.job_outcome.specs.declared.outcome.Outcome.{Outcome}
-use Rattle.job_engine.specs.Runs.{RunEnds}
-use Rattle.batch_search.specs.Batches.{AreProps, EndsItem}
+use Rattle.batch_search.specs.Batches.{AreProps, EndsItem, EndsListed}
+use Rattle.batch_search.specs.declared.outcome.ListedOutcome.{ListedOutcome}
 
 if_ok_as : {X E : Type 0} (P Q : X → Type 0) → ((x : X) → P x → Q x) → (r : Result X E) → IfOk r P → IfOk r Q
 if_ok_as P Q follows (Ok x) h = follows x h
@@ -22,14 +21,14 @@ props_here queries props item q p h near =
 
 -- what was searched there is what the item gives
 pub ends_here : {E : Type 0} (queries : List Query) (capacity item : ℕ) (v : List Query × ℕ) (q : Query)
-    (r : Result Outcome E)
-    → v ≡ (queries, capacity) → item < length queries → IfOk r (RunEnds (slice_index_or queries item q) capacity 1)
+    (r : Result ListedOutcome E)
+    → v ≡ (queries, capacity) → item < length queries → IfOk r (EndsListed (slice_index_or queries item q) capacity)
     → IfOk r (λ outcome. EndsItem v.0 v.1 item outcome)
 ends_here queries capacity item v q r is near =
-    subst (λ (y : List Query × ℕ). IfOk r (RunEnds (slice_index_or queries item q) capacity 1)
+    subst (λ (y : List Query × ℕ). IfOk r (EndsListed (slice_index_or queries item q) capacity)
     → IfOk r (λ outcome. EndsItem y.0 y.1 item outcome)) (sym is)
-    (if_ok_as (RunEnds (slice_index_or queries item q) capacity 1) (λ outcome. EndsItem queries capacity item outcome)
+    (if_ok_as (EndsListed (slice_index_or queries item q) capacity) (λ outcome. EndsItem queries capacity item outcome)
     (λ outcome ends query at.
     let here = slice_get-get_or queries item q near in
     let same : slice_index_or queries item q ≡ query = cc in
-    subst (λ k. RunEnds k capacity 1 outcome) same ends) r)
+    subst (λ k. EndsListed k capacity outcome) same ends) r)

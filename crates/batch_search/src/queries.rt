@@ -1,6 +1,7 @@
 //! The queries of a batch, as items of a pool.
+use crate::outcome::{ListedOutcome, listed};
 use batch_pool::Batch;
-use job_engine::{Outcome, RunNote, search_alone};
+use job_engine::{RunNote, search_alone};
 use query_core::Query;
 use request_props::Props;
 use std::alloc::{AllocError, Global};
@@ -32,7 +33,7 @@ impl<'q> Batch for QueryBatch<'q> {
     ghost use Rattle.std.specs.Prelude.{length};
     ghost use Rattle.batch_search.specs.Batches.{EndsItem};
 
-    type Output = Outcome;
+    type Output = ListedOutcome;
 
     ghost items = { λ b. length b.0 };
 
@@ -42,15 +43,16 @@ impl<'q> Batch for QueryBatch<'q> {
         self.queries.len() as u32
     }
 
-    fn run(&self, alloc: Global, item: u32) -> Result<Outcome, AllocError> {
+    fn run(&self, alloc: Global, item: u32) -> Result<ListedOutcome, AllocError> {
         let at = item as usize;
         let mut note = RunNote::new();
-        search_alone(
+        let outcome = search_alone(
             alloc,
             &self.queries[at],
             &self.props[at],
             self.capacity,
             &mut note,
-        )
+        )?;
+        listed(alloc, outcome)
     }
 }

@@ -2,9 +2,9 @@
 ghost use Rattle.std.specs.Prelude.{◌*◌, ◌≤◌, ◌^◌, IfOk, length};
 ghost use Rattle.batch_search.specs.Batches.{AreProps, EndsBatch};
 
+use crate::outcome::ListedOutcome;
 use crate::queries::QueryBatch;
 use batch_pool::run_all;
-use job_engine::Outcome;
 use orca_base::List;
 use orca_io::Gate;
 use query_core::Query;
@@ -16,7 +16,7 @@ use std::thread::Threads;
 /// What the search of each query gave, and the number of the worker that searched it.
 #[derive(Drop)]
 pub struct BatchRun {
-    pub outcomes: List<Outcome>,
+    pub outcomes: List<ListedOutcome>,
     pub taken: List<u32>,
 }
 
@@ -36,7 +36,7 @@ pub fn run_batch<R: Threads + Wait + Sync, G: Gate>(
     requires capacity { (1 ≤ capacity) × (capacity ≤ 2 ^ 20) }
     requires workers { (1 ≤ workers) × (workers ≤ 64) }
 
-    // How many cells the boards of all workers have at once, and all outcomes together.
+    // How many cells the boards of all workers have at once, and how many entries all outcomes together.
     requires boards { workers * capacity ≤ 8388608 }
     requires entries { length queries.now * capacity ≤ 67108864 }
     ensures { IfOk result (EndsBatch queries.now capacity workers) }

@@ -3,8 +3,9 @@
 ghost use Rattle.std.specs.Prelude.{◌≤◌, IfOk};
 ghost use Rattle.batch_search.specs.Batches.{AreProps};
 
-use batch_search::run_batch;
+use batch_search::{ListedOutcome, run_batch};
 use job_engine::{Outcome, RunNote, search_alone};
+use job_outcome::Lists;
 use orca_io::{Gate, NoGate};
 use query_core::Query;
 use request_props::Props;
@@ -29,38 +30,32 @@ fn props_of_all(alloc: Global, queries: &[Query]) -> Result<Vec<Props>, Fail>
     Ok(all)
 }
 
+// Whether two lists are the same.
+fn are_alike(one: &Lists, other: &Lists) -> bool {
+    one.members.as_slice() == other.members.as_slice()
+        && one.goals.as_slice() == other.goals.as_slice()
+        && one.answers.list.as_slice() == other.answers.list.as_slice()
+}
+
 // Whether both searches found the same members, goals and answers, or neither had room.
-fn found_alike(one: &Outcome, other: &Outcome) -> bool {
+fn found_alike(alloc: Global, one: &Outcome, other: &ListedOutcome) -> Result<bool, AllocError> {
     match (one, other) {
-        (
-            Outcome::Done {
-                members,
-                goals,
-                answers,
-                who: _,
-            },
-            Outcome::Done {
-                members: same_members,
-                goals: same_goals,
-                answers: same_answers,
-                who: _,
-            },
-        ) => {
-            members.as_slice() == same_members.as_slice()
-                && goals.as_slice() == same_goals.as_slice()
-                && answers.list.as_slice() == same_answers.list.as_slice()
+        (Outcome::Done(searched), ListedOutcome::Done(lists)) => {
+            Ok(are_alike(&searched.lists(alloc)?, lists))
         }
-        (Outcome::Full { capacity }, Outcome::Full { capacity: same }) => capacity == same,
-        _ => false,
+        (Outcome::Full { capacity }, ListedOutcome::Full { capacity: same }) => {
+            Ok(capacity == same)
+        }
+        _ => Ok(false),
     }
 }
 
 // Whether a search of the query alone gives the outcome.
-fn is_found_alone(alloc: Global, query: &Query, outcome: &Outcome) -> Result<bool, Fail> {
+fn is_found_alone(alloc: Global, query: &Query, outcome: &ListedOutcome) -> Result<bool, Fail> {
     let props = Props::collect(alloc, query)?;
     let mut note = RunNote::new();
     let alone = search_alone(alloc, query, &props, ROOM, &mut note)?;
-    Ok(found_alike(&alone, outcome))
+    Ok(found_alike(alloc, &alone, outcome)?)
 }
 
 // Whether so many workers find of each query what one finds of it alone.

@@ -9,9 +9,10 @@ ghost use Rattle.goal_board.specs.SeatCalls.{HasRightTo, HasSeenPromise};
 
 use crate::Numbers;
 use goal_board::{
-    Answer, Awaited, Board, Closed, Finished, GoalRules, Hints, Inserted, Right, Seat, Suspended,
-    Woken,
+    Answer, Awaited, Board, ClosedBoard, Finished, GoalRules, Hints, Inserted, Right, Seat,
+    Suspended, Woken,
 };
+use std::alloc::{AllocError, Global};
 use std::process::Abort;
 use std::test::Fail;
 use std::thread;
@@ -338,11 +339,20 @@ fn wait_and_finish(
 }
 
 // What a closed board held: so many cells and finished goals, a goal that is ready, and whether it was full.
-fn holds(closed: &Closed, cells: usize, finished: usize, ready: Option<u64>, full: bool) -> bool {
-    closed.cells.len() == cells
-        && closed.finished.len() == finished
-        && closed.ready == ready
-        && closed.full == full
+fn holds(
+    alloc: Global,
+    board: &ClosedBoard,
+    cells: usize,
+    finished: u32,
+    ready: Option<u64>,
+    full: bool,
+) -> Result<bool, AllocError> {
+    Ok(
+        board.cells(alloc)?.len() == cells
+            && board.finished_count() == finished
+            && board.ready(&Numbers { limit: 4 }) == ready
+            && board.is_full() == full,
+    )
 }
 
 // Whether the word was found.
@@ -370,8 +380,9 @@ fn a_word_is_in_one_cell(rt: HostRuntime) -> Result<(), Fail> {
     place_of(&rt, &board, &mut other, 1);
     assert!(rt; finds(&board, &mut seat, 1));
     board.join(&mut seat, other);
-    let closed = board.close(rt.alloc(), seat)?;
-    assert!(rt; closed.cells.len() == 3 && closed.finished.is_empty() && !closed.full);
+    let closed = board.close(seat);
+    assert!(rt; closed.cells(rt.alloc())?.len() == 3 && closed.finished_count() == 0);
+    assert!(rt; !closed.is_full() && closed.answer(4).is_none());
     Ok(())
 }
 
@@ -391,8 +402,9 @@ fn claim_in_turn(rt: &impl Abort, board: &Board<Numbers>, seat: &mut Seat<Number
 fn a_goal_is_claimed_by_one_at_a_time(rt: HostRuntime) -> Result<(), Fail> {
     let (board, mut seat) = Board::start(rt.alloc(), Numbers { limit: 4 }, 4)?;
     claim_in_turn(&rt, &board, &mut seat);
-    let closed = board.close(rt.alloc(), seat)?;
-    assert!(rt; holds(&closed, 2, 2, None, false));
+    let closed = board.close(seat);
+    assert!(rt; holds(rt.alloc(), &closed, 2, 2, None, false)?);
+    assert_eq!(rt; closed.answer(4), Some(Answer { cost: 40, node: 4 }));
     Ok(())
 }
 
@@ -454,11 +466,12 @@ fn a_goal_waits_for_its_child(rt: HostRuntime) -> Result<(), Fail> {
     let four_first = wait_for_three(&rt, &board, &mut seat);
     let other = board.split(&mut seat);
     board.join(&mut seat, other);
-    let closed = board.close(rt.alloc(), seat)?;
+    let closed = board.close(seat);
     let (one, two) = if four_first { (4, 3) } else { (3, 4) };
-    assert!(rt; closed.cells.as_slice() == [one, two].as_slice());
-    assert!(rt; closed.finished.as_slice() == [outcome_of(one), outcome_of(two)].as_slice());
-    assert!(rt; !closed.full && closed.ready.is_none());
+    assert!(rt; closed.cells(rt.alloc())?.as_slice() == [one, two].as_slice());
+    let finished = closed.finished(rt.alloc())?;
+    assert!(rt; finished.as_slice() == [outcome_of(one), outcome_of(two)].as_slice());
+    assert!(rt; holds(rt.alloc(), &closed, 2, 2, None, false)?);
     Ok(())
 }
 
@@ -466,8 +479,8 @@ fn a_goal_waits_for_its_child(rt: HostRuntime) -> Result<(), Fail> {
 fn a_goal_that_is_ready_is_told_at_the_end(rt: HostRuntime) -> Result<(), Fail> {
     let (board, mut seat) = Board::start(rt.alloc(), Numbers { limit: 4 }, 4)?;
     place_of(&rt, &board, &mut seat, 4);
-    let closed = board.close(rt.alloc(), seat)?;
-    assert!(rt; holds(&closed, 1, 0, Some(4), false));
+    let closed = board.close(seat);
+    assert!(rt; holds(rt.alloc(), &closed, 1, 0, Some(4), false)?);
     Ok(())
 }
 
@@ -518,8 +531,9 @@ fn fill_the_only_cell(rt: &impl Abort, board: &Board<Numbers>, seat: &mut Seat<N
 fn a_board_of_one_cell_is_full_at_the_second_word(rt: HostRuntime) -> Result<(), Fail> {
     let (board, mut seat) = Board::start(rt.alloc(), Numbers { limit: 4 }, 1)?;
     fill_the_only_cell(&rt, &board, &mut seat);
-    let closed = board.close(rt.alloc(), seat)?;
-    assert!(rt; holds(&closed, 1, 1, None, true) && closed.cells.as_slice() == [3].as_slice());
+    let closed = board.close(seat);
+    assert!(rt; holds(rt.alloc(), &closed, 1, 1, None, true)?);
+    assert!(rt; closed.cells(rt.alloc())?.as_slice() == [3].as_slice());
     Ok(())
 }
 
@@ -536,7 +550,7 @@ fn two_threads_put_each_word_once(rt: HostRuntime) -> Result<(), Fail> {
     );
     board.join(&mut seat, other);
     assert_eq!(rt; first.wrapping_add(second), 79);
-    let closed = made.close(rt.alloc(), seat)?;
-    assert_eq!(rt; closed.cells.len(), 79);
+    let closed = made.close(seat);
+    assert_eq!(rt; closed.cells(rt.alloc())?.len(), 79);
     Ok(())
 }

@@ -99,7 +99,7 @@ fn both_texts(alloc: Global, query: &Query, props: &Props) -> Result<(Vec<u8>, V
     requires { IsProps query.now props.now }
 {
     let found = search(alloc, query, props)?;
-    let extracted = extract(alloc, query, props, &found.answers)?;
+    let extracted = extract(alloc, query, props, &found.searched)?;
     let text = plan_text(alloc, query, props, &extracted)?;
     let least = plain_least(alloc, query, props)?;
     Ok((text, plan_text(alloc, query, props, &least)?))

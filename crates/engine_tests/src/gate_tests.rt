@@ -24,7 +24,7 @@ fn is_found_alone(
     requires { IsProps query.now props.now }
 {
     let alone = find_alone(alloc, query, props, 131_072, note)?;
-    Ok(found_alike(&alone, outcome))
+    found_alike(alloc, &alone, outcome)
 }
 
 // Whether two workers meet, and find what one finds.
@@ -50,10 +50,10 @@ fn two_workers_of_a_crew_meet(rt: HostRuntime) -> Result<(), Fail> {
 }
 
 // Whether the worker finished a goal.
-fn has_finished(outcome: &Outcome, worker: u32) -> bool {
+fn has_finished(alloc: Global, outcome: &Outcome, worker: u32) -> Result<bool, AllocError> {
     match outcome {
-        Outcome::Done { who, .. } => who.as_slice().contains(&worker),
-        _ => false,
+        Outcome::Done(searched) => Ok(searched.lists(alloc)?.who.as_slice().contains(&worker)),
+        _ => Ok(false),
     }
 }
 
@@ -71,7 +71,7 @@ fn goes_on_beside<R: Threads + Wait + Sync>(
     let gate = HoldingGate::of(held);
     let mut note = RunNote::new();
     let outcome = find_by_two(rt, alloc, query, props, 128, &gate, &mut note)?;
-    Ok(gate.was_let_go() && has_finished(&outcome, other))
+    Ok(gate.was_let_go() && has_finished(alloc, &outcome, other)?)
 }
 
 #[test]

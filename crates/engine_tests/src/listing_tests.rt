@@ -82,7 +82,7 @@ fn both_least(
     requires { IsProps query.now props.now }
 {
     let found = search(alloc, query, props)?;
-    let least = match extract(alloc, query, props, &found.answers)? {
+    let least = match extract(alloc, query, props, &found.searched)? {
         Found::Least { plan, cost } => Some(rank_of(alloc, &plan, cost)?),
         Found::NoPlan => None,
     };

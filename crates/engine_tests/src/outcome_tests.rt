@@ -139,8 +139,8 @@ fn put_into_board(
 {
     let (board, seat) = Board::start(alloc, Rules::new(query, props), 79)?;
     let (seat, new_members, new_goals) = put_by_two(rt, &board, seat, members, goals);
-    let closed = board.close(alloc, seat)?;
-    let same = are_those(alloc, closed.cells.as_slice(), members, goals)?;
+    let cells = board.close(seat).cells(alloc)?;
+    let same = are_those(alloc, &cells, members, goals)?;
     Ok((new_members, new_goals, same))
 }
 

@@ -4,6 +4,7 @@ ghost use Rattle.std.specs.Prelude.{◌≤◌, ◌^◌};
 ghost use Rattle.request_props.specs.Numbered.{IsProps};
 
 use job_engine::{Engine, Outcome, RunNote, run_alone, run_crew};
+use job_outcome::Lists;
 use orca_io::{Gate, NoGate};
 use query_core::Query;
 use request_props::Props;
@@ -16,28 +17,20 @@ use worked_queries::{SCAN_ROOT, implied, one_table};
 // What a note has of a search: its capacity, its workers and its goals.
 type Noted = Option<(u32, u32, u32)>;
 
+// Whether two lists are the same.
+fn are_alike(one: &Lists, other: &Lists) -> bool {
+    one.members.as_slice() == other.members.as_slice()
+        && one.goals.as_slice() == other.goals.as_slice()
+        && one.answers.list.as_slice() == other.answers.list.as_slice()
+}
+
 // Whether both searches found the same members, goals and answers.
-pub fn found_alike(one: &Outcome, other: &Outcome) -> bool {
+pub fn found_alike(alloc: Global, one: &Outcome, other: &Outcome) -> Result<bool, AllocError> {
     match (one, other) {
-        (
-            Outcome::Done {
-                members,
-                goals,
-                answers,
-                who: _,
-            },
-            Outcome::Done {
-                members: same_members,
-                goals: same_goals,
-                answers: same_answers,
-                who: _,
-            },
-        ) => {
-            members.as_slice() == same_members.as_slice()
-                && goals.as_slice() == same_goals.as_slice()
-                && answers.list.as_slice() == same_answers.list.as_slice()
+        (Outcome::Done(one), Outcome::Done(other)) => {
+            Ok(are_alike(&one.lists(alloc)?, &other.lists(alloc)?))
         }
-        _ => false,
+        _ => Ok(false),
     }
 }
 
@@ -48,7 +41,7 @@ fn ready_at_first(alloc: Global, query: &Query, props: &Props) -> Result<Option<
     let (engine, mut worker) = Engine::start(alloc, query, props, 64)?;
     let other = engine.split(alloc, &mut worker, 63)?;
     engine.join(&mut worker, other);
-    match engine.close(alloc, worker)? {
+    match engine.close(worker) {
         Outcome::Unfinished { ready } => Ok(Some(ready)),
         _ => Ok(None),
     }
@@ -76,7 +69,7 @@ pub fn find_alone(
     requires capacity { (1 ≤ capacity) × (capacity ≤ 2 ^ 20) }
 {
     let (engine, worker) = Engine::start(alloc, query, props, capacity)?;
-    run_alone(alloc, engine, worker, note)
+    Ok(run_alone(engine, worker, note))
 }
 
 /// What two workers find that pass this gate, with room for so many entries.
@@ -97,20 +90,16 @@ pub fn find_by_two<R: Threads + Wait + Sync, G: Gate>(
 }
 
 // Whether two members and eight goals were found, the root's among these, all by the first worker.
-fn is_whole(outcome: &Outcome) -> bool {
+fn is_whole(alloc: Global, outcome: &Outcome) -> Result<bool, AllocError> {
     match outcome {
-        Outcome::Done {
-            members,
-            goals,
-            answers: _,
-            who,
-        } => {
-            members.len() == 2
-                && goals.len() == 8
-                && goals.as_slice().contains(&SCAN_ROOT)
-                && who.as_slice() == [0; 8].as_slice()
+        Outcome::Done(searched) => {
+            let lists = searched.lists(alloc)?;
+            Ok(lists.members.len() == 2
+                && lists.goals.len() == 8
+                && lists.goals.as_slice().contains(&SCAN_ROOT)
+                && lists.who.as_slice() == [0; 8].as_slice())
         }
-        _ => false,
+        _ => Ok(false),
     }
 }
 
@@ -126,7 +115,7 @@ fn finds_by_two<R: Threads + Wait + Sync>(
     requires { IsProps query.now props.now }
 {
     let outcome = find_by_two(rt, alloc, query, props, 64, &NoGate, note)?;
-    Ok(found_alike(alone, &outcome))
+    found_alike(alloc, alone, &outcome)
 }
 
 // The notes of a search by one worker and of a search by two, where both find the whole.
@@ -142,7 +131,7 @@ fn notes_of_both<R: Threads + Wait + Sync>(
     let alone = find_alone(alloc, query, props, 131_072, &mut note)?;
     let first = note.last();
     let alike = finds_by_two(rt, alloc, query, props, &alone, &mut note)?;
-    Ok(if alike && is_whole(&alone) {
+    Ok(if alike && is_whole(alloc, &alone)? {
         Some([first, note.last()])
     } else {
         None
@@ -161,7 +150,7 @@ fn one_worker_and_two_find_the_same(rt: HostRuntime) -> Result<(), Fail> {
 // Whether the entries were found where they fit in, and nine cells were full where they don't.
 fn is_done_or_full(outcome: &Outcome, fits: bool) -> bool {
     match outcome {
-        Outcome::Done { .. } => fits,
+        Outcome::Done(_) => fits,
         Outcome::Full { capacity } => !fits && *capacity == 9,
         Outcome::Unfinished { .. } => false,
     }

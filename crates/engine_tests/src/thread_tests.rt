@@ -84,7 +84,7 @@ fn search_by_two(
     let (mut first, second) = work_by_two(rt, &engine, first, second);
     let told = step_until_end(&engine, &mut first, 100_000);
     engine.join(&mut first, second);
-    Ok((told, engine.close(alloc, first)?))
+    Ok((told, engine.close(first)))
 }
 
 // Whether the two come to the end, and find what one worker finds.
@@ -98,7 +98,7 @@ fn end_as_alone(
     requires { IsProps query.now props.now }
 {
     let (told, outcome) = search_by_two(rt, alloc, query, props)?;
-    Ok(told == Some(Stepped::Done) && found_alike(alone, &outcome))
+    Ok(told == Some(Stepped::Done) && found_alike(alloc, alone, &outcome)?)
 }
 
 #[test]

@@ -130,7 +130,7 @@ fn search_by_draws(
     let agree = is_end(told) && told == second_told && told == third_told;
     engine.join(&mut first, second);
     engine.join(&mut first, third);
-    Ok((agree, engine.close(alloc, first)?))
+    Ok((agree, engine.close(first)))
 }
 
 // The first worker steps so many times, then a second one once and never again, and then the first until the end.
@@ -148,7 +148,7 @@ fn search_past_one_step(
     step_of(&engine, &mut second);
     let told = step_until_end(&engine, &mut first, 100_000);
     engine.join(&mut first, second);
-    Ok((told, engine.close(alloc, first)?))
+    Ok((told, engine.close(first)))
 }
 
 /// The end that one worker is told within so many steps, if it is told one.
@@ -181,7 +181,7 @@ fn ends_as_alone(
     requires { IsProps query.now props.now }
 {
     let (agree, outcome) = search_by_draws(alloc, query, props, 79, number)?;
-    Ok(agree && found_alike(alone, &outcome))
+    Ok(agree && found_alike(alloc, alone, &outcome)?)
 }
 
 // Whether three workers agree that 78 cells are full.
@@ -217,7 +217,7 @@ fn ends_past_one_step(
     requires { IsProps query.now props.now }
 {
     let (told, outcome) = search_past_one_step(alloc, query, props, before)?;
-    Ok(told == Some(Stepped::Done) && found_alike(alone, &outcome))
+    Ok(told == Some(Stepped::Done) && found_alike(alloc, alone, &outcome)?)
 }
 
 #[test]

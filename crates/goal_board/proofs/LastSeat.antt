@@ -1,5 +1,5 @@
 -- A board whose last seat has all parts.
-use Rattle.std.proofs.Common.{◌≡◌, ◌≢◌, ℕ, zero, suc, ◌+◌, ◌^◌, ◌<◌, ◌≤◌, List, [], ◌∷◌, cond, eqb, ne_eqb, true, false}
+use Rattle.std.proofs.Common.{◌≡◌, ◌≢◌, ℕ, zero, suc, ◌+◌, ◌^◌, ◌<◌, ◌≤◌, List, [], ◌∷◌, cond, eqb, ne_eqb, false}
 use Rattle.std.proofs.Common.{not, IsTrue, sym, refl, ap, subst, ◌∙◌, inl, inr, ⊎_elim, arith}
 use Rattle.std.proofs.lemmas.Bool.{cases_eq}
 use mathlib.Core.Option.{some, some-injective, some-ne-none}
@@ -13,8 +13,9 @@ use Rattle.board_rule.specs.declared.hands.Hands.{Hands}
 use Rattle.board_rule.proofs.Lists.{among_counts, each_at, terms_le}
 use Rattle.board_rule.proofs.WakeUps.{no_wake_up_lost, registered_not_ready}
 use Rattle.goal_board.specs.Seats.{IsFree}
-use Rattle.goal_board.specs.Closed.{HasWorkers, IsReadyAt, IsFirstReady, ReadsBoard, ClosesWith}
-use Rattle.goal_board.specs.declared.answers.Closed.{Closed}
+use Rattle.goal_board.specs.Closed.{HasWorkers, IsReadyAt}
+use Rattle.goal_board.specs.Closing.{words_of, is_full, ClosesWith}
+use Rattle.goal_board.specs.declared.closing.ClosedBoard.{ClosedBoard}
 
 module _ {A : Type 0} (f : A → ℕ) where
   none_at_all : (l : List A) → ((k : ℕ) (u : A) → get_elem? l k ≡ some u → f u ≡ 0) → total f l ≡ 0
@@ -99,32 +100,30 @@ module _ {R : Type 0} (meaning : Meaning) (rules : R) (capacity : ℕ) (words : 
       (λ p near holds ready. none_ready p near (record { some_goal = holds.0; is_goal = holds.1; ready = ready }))
 
 -- what is said of a board that was closed
-pub closes_with : {R : Type 0} → (meaning_of : R → Meaning) (rules : R) (capacity : ℕ) (words : List ℕ)
-    (views : List (Hands R)) (sound : IsSound (meaning_of rules) rules capacity words views)
+pub closes_with : {R : Type 0} → (meaning_of : R → Meaning) (rules : R) (capacity : ℕ) (board : ClosedBoard)
+    (views : List (Hands R)) (same : board.capacity ≡ capacity)
+    (sound : IsSound (meaning_of rules) rules capacity (words_of board) views)
     (id : ℕ) (v : Hands R) (mine : get_elem? views id ≡ some v) (all : v.parts ≡ 64) → v.rights ≡ [] → IsFree v
     → ((goal child : ℕ) → (meaning_of rules).entry goal → (meaning_of rules).child goal child
     → IsTrue ((meaning_of rules).goal child))
     → (rank : ℕ → ℕ) → ((goal child : ℕ) → (meaning_of rules).child goal child → rank child < rank goal)
-    → (closed : Closed) → ReadsBoard (meaning_of rules) capacity (mem words) closed
-    → ClosesWith meaning_of rules capacity v closed
-closes_with meaning_of rules capacity words views sound id v mine all no_right free children rank falls closed reads =
+    → ClosesWith meaning_of rules capacity v board
+closes_with meaning_of rules capacity board views same sound id v mine all no_right free children rank falls =
+    let words : List ℕ = words_of board in
     record {
-      words = words;
+      same_capacity = same;
       views = views;
       id = id;
       sound = sound;
       mine = mine;
-      reads = reads;
-      none_ready = λ none. all_finished (meaning_of rules) rules capacity words views sound id v mine all no_right
-          free children
-          rank falls (subst (IsFirstReady (meaning_of rules) (mem words) capacity) none reads.ready);
+      none_ready = all_finished (meaning_of rules) rules capacity words views sound id v mine all no_right free children
+          rank falls;
       finished_by = finished_by (meaning_of rules) rules capacity words views sound id v mine all;
       registered = λ c q near at. registered_not_ready (meaning_of rules) capacity
           (mem words) views sound.by_kinds.waits c q
           near (among_counts (λ (p : ℕ). p) (sound.by_kinds.waits.lists c) q at);
-      filled = λ shows. reads.full ∙ ap not (ne_eqb (mem words).full 0
+      filled = λ shows. ap not (ne_eqb (mem words).full 0
           ((sound.by_kinds.hands id v mine).stays.set_full shows.0 shows.1 shows.2));
-      left_out = λ is_full. sound.by_kinds.full (λ none. let unset : not (eqb (mem words).full 0) ≡ false =
-          ap (λ x. not (eqb x 0)) none in let set : not (eqb (mem words).full 0) ≡ true = sym reads.full ∙ is_full in
-          let no_way : ⊥ = cc in no_way);
+      left_out = λ set. sound.by_kinds.full (λ none. let unset : is_full board ≡ false =
+          ap (λ x. not (eqb x 0)) none in let no_way : ⊥ = cc in no_way);
     }

@@ -1,5 +1,3 @@
-use orca_base::List;
-
 /// What came out of a goal.
 #[derive(Debug, Clone, Copy, PartialEq, Eq)]
 pub struct Answer {
@@ -39,17 +37,4 @@ pub struct Finished {
     pub goal: u64,
     pub answer: Answer,
     pub who: u32,
-}
-
-/// What a board held when it was closed.
-#[derive(Debug, Drop)]
-pub struct Closed {
-    /// The words of the taken cells, in the order of their places.
-    pub cells: List<u64>,
-    /// The finished goals, in that order.
-    pub finished: Vec<Finished>,
-    /// Whether some entry found every cell taken.
-    pub full: bool,
-    /// The goal in the least place that is ready.
-    pub ready: Option<u64>,
 }

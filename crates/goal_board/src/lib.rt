@@ -13,8 +13,9 @@ mod wait_steps;
 mod waits;
 mod waking;
 
-pub use answers::{Answer, Awaited, Closed, Finished, Suspended, Woken};
+pub use answers::{Answer, Awaited, Finished, Suspended, Woken};
 pub use board::{Board, Right, Seat};
 pub use board_rule::GoalRules;
+pub use closing::ClosedBoard;
 pub use hints::Hints;
 pub use word_table::Inserted;

@@ -1,14 +1,12 @@
-ghost use Rattle.std.specs.Prelude.{◌≡◌, ℕ, ◌≤◌, [], IfOk};
+ghost use Rattle.std.specs.Prelude.{◌≡◌, ℕ, ◌≤◌, []};
 ghost use Rattle.board_rule.specs.Seats.{parted, part, joined};
 ghost use Rattle.goal_board.specs.Seats.{IsSeatOf, hands};
 ghost use Rattle.goal_board.specs.SeatCalls.{SeatReadsFull};
-ghost use Rattle.goal_board.specs.Closed.{ClosesWith};
+ghost use Rattle.goal_board.specs.Closing.{ClosesWith};
 
-use crate::answers::Closed;
 use crate::board::{Board, Seat};
-use crate::closing::read_all;
+use crate::closing::ClosedBoard;
 use board_rule::{Apart, GoalRules, Together};
-use std::alloc::{AllocError, Global};
 
 impl<R: GoalRules> Board<R> {
     /// Whether the full word was found set: some entry found every cell taken.
@@ -46,21 +44,21 @@ impl<R: GoalRules> Board<R> {
             .join_seat::<Together>(&mut seat.seat, other);
     }
 
-    /// Ends the board, whose last seat holds no right, and reads what it held. After `Err` the board is gone.
-    pub fn close(self, alloc: Global, seat: Seat<R>) -> Result<Closed, AllocError>
+    /// Ends the board, whose last seat holds no right.
+    pub fn close(self, seat: Seat<R>) -> ClosedBoard
     where
         R: Drop,
         requires seat { IsSeatOf R.meaning self seat }
         requires parts { (hands seat).parts ≡ 64 }
         requires rights { (hands seat).rights ≡ [] }
-        ensures { IfOk result (λ closed.
-            ClosesWith R.meaning self.setup.rules self.setup.capacity (hands seat) closed) }
+        ensures { ClosesWith R.meaning self.setup.rules self.setup.capacity (hands seat) result }
     {
         let Board { table, setup } = self;
         let Seat { seat } = seat;
         let words = table.close_with(seat);
-        let read = read_all(alloc, &words, &setup);
-        words.free();
-        read
+        ClosedBoard {
+            words,
+            capacity: setup.capacity,
+        }
     }
 }

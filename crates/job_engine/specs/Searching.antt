@@ -1,11 +1,10 @@
 -- The engine of a query's search, its workers, and what a search gives.
 use Rattle.std.specs.Prelude.{◌≡◌, ℕ}
 use Rattle.query_core.specs.declared.query.Query.{Query}
-use Rattle.board_rule.specs.Words.{mem}
 use Rattle.board_rule.specs.Looks.{ShowsClosed}
 use Rattle.board_rule.specs.declared.hands.Hands.{Hands}
 use Rattle.goal_board.specs.Seats.{hands}
-use Rattle.goal_board.specs.declared.answers.Closed.{Closed}
+use Rattle.goal_board.specs.declared.closing.ClosedBoard.{ClosedBoard}
 use Rattle.goal_space.specs.Words.{goal_word}
 use Rattle.goal_space.specs.Goals.{root_goal_of}
 use Rattle.goal_rules.specs.Meaning.{meaning_of}
@@ -61,9 +60,9 @@ ShowsRoot engine v = ShowsClosed v.looks engine.scheduler.root
 
 -- a seat with these hands closed the board of so many cells, and this is what the board held
 pub record GivesOutcome (q : Query) (cells place : ℕ) (v : Hands Rules) (outcome : Outcome) : Type 0 where
-  pub closed : Closed
-  pub its : ClosesSearch q cells place v closed
-  pub is : IsOutcome q cells (mem its.closes.words).cell v.done closed outcome
+  pub board : ClosedBoard
+  pub its : ClosesSearch q cells place v board
+  pub is : IsOutcome q cells v.done board outcome
 
 -- a seat with these hands closed the engine's board
 abbrev pub GivesFor : Engine → Hands Rules → Outcome → Type 0

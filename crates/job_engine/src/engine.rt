@@ -140,15 +140,13 @@ impl<'q> Engine<'q> {
         self.scheduler.join(worker, other)
     }
 
-    /// Ends the search, whose last worker this is. After `Err` all is gone.
-    pub fn close(self, alloc: Global, worker: Worker<Rules<'q>>) -> Result<Outcome, AllocError>
+    /// Ends the search, whose last worker this is.
+    pub fn close(self, worker: Worker<Rules<'q>>) -> Outcome
         requires worker { IsWorker self worker }
         requires parts { (hands worker.seat).parts ≡ 64 }
-        ensures gives { IfOk result (GivesFor self.entry (hands worker.entry.seat)) }
-        ensures finished { IfOk result (λ outcome.
-            ShowsRoot self.entry (hands worker.entry.seat) → IsDoneCase outcome) }
-        ensures full { IfOk result (λ outcome.
-            ShowsFull (hands worker.entry.seat).looks → IsFullCase outcome) }
+        ensures gives { GivesFor self.entry (hands worker.entry.seat) result }
+        ensures finished { ShowsRoot self.entry (hands worker.entry.seat) → IsDoneCase result }
+        ensures full { ShowsFull (hands worker.entry.seat).looks → IsFullCase result }
     {
         let Engine {
             scheduler,
@@ -157,8 +155,7 @@ impl<'q> Engine<'q> {
             cells,
             capacity: _,
         } = self;
-        let closed = scheduler.close(alloc, worker)?;
-        outcome_of(alloc, rules.query, root, cells, closed)
+        outcome_of(&rules, root, cells, scheduler.close(worker))
     }
 }
 

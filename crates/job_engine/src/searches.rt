@@ -49,7 +49,7 @@ pub fn search_alone(
         }
     }
     let (engine, worker) = Engine::start(alloc, query, props, capacity)?;
-    run_alone(alloc, engine, worker, note)
+    Ok(run_alone(engine, worker, note))
 }
 
 /// Searches by n workers on a board of at most `capacity` cells. Each worker is in a thread of its own, which passes the
@@ -153,7 +153,7 @@ fn run_alone_on(
 {
     let mut note = RunNote::new();
     let (engine, worker) = Engine::start_on(alloc, query, props, cells, capacity)?;
-    let outcome = run_alone(alloc, engine, worker, &mut note)?;
+    let outcome = run_alone(engine, worker, &mut note);
     Ok((outcome, note))
 }
 
@@ -186,7 +186,7 @@ fn is_done(outcome: &Outcome) -> bool
     ensures { result ≡ true → IsDoneCase outcome.now }
 {
     match outcome {
-        Outcome::Done { .. } => true,
+        Outcome::Done(_) => true,
         Outcome::Full { .. } => false,
         Outcome::Unfinished { .. } => false,
     }

@@ -17,7 +17,7 @@ use Rattle.goal_children.specs.Listed.{AreGoalsOf}
 use Rattle.board_rule.specs.Words.{Mem}
 use Rattle.goal_board.specs.Closed.{cells_below, finished_at, finished_below}
 use Rattle.job_outcome.specs.Outcomes.{HasMoreEntries, FitsIn}
-use Rattle.job_outcome.specs.Finished.{is_member_word}
+use Rattle.job_outcome.specs.Searched.{is_member_word}
 use Rattle.job_outcome.proofs.Places.{by_cell, by_head}
 
 abbrev members_in : List ℕ → ℕ

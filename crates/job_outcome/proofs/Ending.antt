@@ -16,27 +16,30 @@ use Rattle.query_core.specs.Goals.{goal_bit, FitsExpr}
 use Rattle.query_core.specs.declared.query.Query.{Query}
 use Rattle.query_core.specs.declared.expressions.ExprParts.{ExprParts}
 use Rattle.xform_rules.specs.Closure.{IsMember, IsMemberWord, IsClosureOf}
-use Rattle.plan_tree.specs.declared.answers.Answered.{Answered}
 use Rattle.best_answers.specs.Laws.{BestsFit}
 use Rattle.goal_space.specs.Words.{goal_word}
 use Rattle.goal_space.specs.Entries.{IsEntry, IsGoalWord}
 use Rattle.goal_space.specs.Laws.{GoalRequestsFit, MembersAreAsked}
 use Rattle.goal_space.specs.Answers.{AreAnswers, TellsAnswer, words_told}
+use Rattle.plan_report.specs.Sources.{HasAnswers}
 use Rattle.goal_children.specs.Listed.{AreGoalsOf}
 use Rattle.board_rule.specs.Records.{Ended}
 use Rattle.board_rule.specs.Words.{Mem}
 use Rattle.goal_board.specs.Closed.{cells_below, finished_at, finished_below}
-use Rattle.goal_board.specs.declared.answers.Closed.{Closed}
-use Rattle.job_outcome.specs.Outcomes.{HasFinishedRoot, IsFinisher, IsDone}
-use Rattle.job_outcome.specs.Finished.{is_member_word, told_of, IsOrdered}
+use Rattle.goal_board.specs.Closing.{mem_of, cells_of, finished_of}
+use Rattle.job_outcome.specs.Outcomes.{HasFinishedRoot, IsFinisher, AreDone, IsDone}
+use Rattle.job_outcome.specs.Searched.{is_member_word, told_of, answers_of, AreListsOf}
+use Rattle.job_outcome.specs.declared.searched.Lists.{Lists}
+use Rattle.job_outcome.specs.declared.searched.Searched.{Searched}
 use Rattle.goal_board.specs.declared.answers.Finished.{Finished}
-use Rattle.job_outcome.proofs.Lists.{all_zip_maps, contains_filter, contains_map, distinct_filter}
+use Rattle.job_outcome.proofs.ListLemmas.{all_zip_maps, contains_filter, contains_map, distinct_filter}
 use Rattle.job_outcome.proofs.Places.{all_below, all_cells, cells_differ, contains_below, contains_cell, goal_in}
 use Rattle.job_outcome.proofs.Places.{goals_differ}
 use Rattle.job_outcome.proofs.Finishing.{all_finished, all_stand, goal_at, high_at, member_entry, taken_at}
 use Rattle.job_outcome.proofs.Told.{tells}
 use Rattle.job_outcome.proofs.Counting.{few_below}
 use Rattle.job_outcome.proofs.Reading.{ReadsSearch, root_finished}
+use Rattle.job_outcome.proofs.Listed.{some_lists}
 
 -- some goal, for where a list ends
 nothing : Finished
@@ -51,7 +54,7 @@ rising_words finished rise =
     let up = rise i j nothing ordered (omega (arith, within, length-map finished goal_in)) in
     omega (arith, first, second, up))
 
-words_of_told : (finished : List Finished) → words_told (map told_of finished) ≡ map goal_in finished
+pub words_of_told : (finished : List Finished) → words_told (map told_of finished) ≡ map goal_in finished
 words_of_told [] = refl
 words_of_told (f ∷ finished) = ap (λ l. f.goal ∷ l) (words_of_told finished)
 
@@ -60,13 +63,23 @@ ascending : (xs ys : List ℕ) → IsPermutation xs ys → IsDistinct nat_eq xs 
 ascending xs ys same differ rise = IsStrictlyIncreasing-from_distinct ys rise
     (IsDistinct-IsPermutation nat_eq nat_eq_equiv.symm xs ys same differ)
 
-module _ (q : Query) (capacity place : ℕ) (m : Mem) (done : List Ended) (closed : Closed)
-    (its : ReadsSearch q capacity place m done closed) (has : HasFinishedRoot q closed) where
+module _ (q : Query) (capacity place : ℕ) (done : List Ended) (searched : Searched)
+    (its : ReadsSearch q capacity place done searched.board) (has : HasFinishedRoot q searched.board) where
+  abbrev m : Mem
+  m = mem_of searched.board
+
+  -- what was read of all places
+  cells_here : cells_of searched.board ≡ cells_below m capacity
+  cells_here = ap (cells_below m) its.same_capacity
+
+  finished_here : finished_of searched.board ≡ finished_below m capacity
+  finished_here = ap (finished_below m) its.same_capacity
+
   -- ---- the goals
 
-  module _ (finished : List Finished) (same : IsPermutation closed.finished.items finished) where
+  module _ (finished : List Finished) (same : IsPermutation (finished_of searched.board) finished) where
     moved : IsPermutation (finished_below m capacity) finished
-    moved = subst (λ (l : List Finished). IsPermutation l finished) its.finished same
+    moved = subst (λ (l : List Finished). IsPermutation l finished) finished_here same
 
     -- what holds of each goal with a closed head holds of each in the list
     each_goal : (Fact : Finished → Type 0) → ((p : ℕ) → p < capacity → 2 ^ 63 ≤ m.head p → Fact (finished_at m p))
@@ -85,7 +98,7 @@ module _ (q : Query) (capacity place : ℕ) (m : Mem) (done : List Ended) (close
           (each_goal (λ f. IsGoalWord q f.goal) (goal_at q capacity m its.searched));
       complete = λ goal is_goal.
           let (p, near, some, at, head) = all_finished q capacity m its.searched
-          (root_finished q capacity place m done closed its has) goal is_goal in
+          (root_finished q capacity place done searched.board its has) goal is_goal in
           subst (Contains (map goal_in finished)) at
           (contains_map goal_in (finished_at m p) finished
           (Contains-permutation (finished_below m capacity) finished (finished_at m p) moved
@@ -124,9 +137,9 @@ module _ (q : Query) (capacity place : ℕ) (m : Mem) (done : List Ended) (close
   -- ---- the members
 
   module _ (small : (e : ExprParts) → IsMember q e → FitsExpr (word_of e)) (members : List ℕ)
-      (same : IsPermutation (filter is_member_word closed.cells) members) where
+      (same : IsPermutation (filter is_member_word (cells_of searched.board)) members) where
     sorted : IsPermutation (filter is_member_word (cells_below m capacity)) members
-    sorted = subst (λ (l : List ℕ). IsPermutation (filter is_member_word l) members) its.cells same
+    sorted = subst (λ (l : List ℕ). IsPermutation (filter is_member_word l) members) cells_here same
 
     members_sound : All (IsMemberWord q) (filter is_member_word (cells_below m capacity))
     members_sound k d within =
@@ -144,7 +157,7 @@ module _ (q : Query) (capacity place : ℕ) (m : Mem) (done : List Ended) (close
           members_sound;
       complete = λ e member.
           let (p, near, some, at) = all_stand q capacity m its.searched
-          (root_finished q capacity place m done closed its has)
+          (root_finished q capacity place done searched.board its has)
           asked e member in
           let low = small e member in
           let there = subst (Contains (cells_below m capacity)) at
@@ -154,14 +167,31 @@ module _ (q : Query) (capacity place : ℕ) (m : Mem) (done : List Ended) (close
           (ap not (lt-leb goal_bit (word_of e) (omega (arith, low)))) there);
     }
 
+  -- ---- the answers, in whatever order
+
+  has_answers : BestsFit q → GoalRequestsFit q → HasAnswers q (answers_of searched)
+  has_answers fit requests =
+      subst (λ (l : List Finished). HasAnswers q (map told_of l)) (sym finished_here) (record {
+        sound = All-map (TellsAnswer q) told_of (finished_below m capacity)
+            (all_below m (λ f. TellsAnswer q (told_of f)) capacity
+            (λ p near head. tells q fit requests (finished_at m p) (its.searched.promises.answer p near head)));
+        complete = λ goal is_goal.
+            let (p, near, some, at, head) = all_finished q capacity m its.searched
+            (root_finished q capacity place done searched.board its has) goal is_goal in
+            subst (λ (l : List ℕ). Contains l (goal_word goal)) (sym (words_of_told (finished_below m capacity)))
+            (subst (Contains (map goal_in (finished_below m capacity))) at
+            (contains_map goal_in (finished_at m p) (finished_below m capacity)
+            (contains_below m capacity p near head)));
+      })
+
   -- ---- all of it
 
-  pub is_done : BestsFit q → GoalRequestsFit q → MembersAreAsked q
+  are_done : BestsFit q → GoalRequestsFit q → MembersAreAsked q
       → ((e : ExprParts) → IsMember q e → FitsExpr (word_of e))
-      → (members goals : List ℕ) (answers : List Answered) (who : List ℕ) → IsOrdered closed members goals answers who
-      → IsDone q capacity m.cell done members goals answers who
-  is_done fit requests asked small members goals answers who ordered =
+      → (lists : Lists) → AreListsOf searched lists → AreDone q capacity m.cell done lists
+  are_done fit requests asked small lists ordered =
       let finished = ordered.finished in
+      let members = lists.members in
       let all_goals = goals_of_query finished ordered.same ordered.ascending in
       let all_answers = answers_of_query finished ordered.same fit requests all_goals in
       let few = few_below m capacity (high_at q capacity m its.searched) capacity (omega arith) in
@@ -177,9 +207,20 @@ module _ (q : Query) (capacity place : ℕ) (m : Mem) (done : List Ended) (close
         };
         are_answers = subst (AreAnswers q) (sym ordered.answers_are) all_answers;
         in_order = ap words_told ordered.answers_are ∙ words_of_told finished ∙ sym ordered.goals_are;
-        finishers = (λ (goals_are : map goal_in finished ≡ goals)
-            (who_are : map (λ (f : Finished). f.who) finished ≡ who).
-            subst (λ (l : List ℕ). AllZip (IsFinisher m.cell done) l who) goals_are
+        finishers = (λ (goals_are : map goal_in finished ≡ lists.goals)
+            (who_are : map (λ (f : Finished). f.who) finished ≡ lists.who).
+            subst (λ (l : List ℕ). AllZip (IsFinisher m.cell done) l lists.who) goals_are
             (subst (AllZip (IsFinisher m.cell done) (map goal_in finished)) who_are (finishers finished ordered.same)))
             (sym ordered.goals_are) (sym ordered.who_are);
+      }
+
+  pub is_done : BestsFit q → GoalRequestsFit q → MembersAreAsked q
+      → ((e : ExprParts) → IsMember q e → FitsExpr (word_of e)) → IsDone q capacity done searched
+  is_done fit requests asked small =
+      let (lists, are) = some_lists searched in
+      record {
+        answers = has_answers fit requests;
+        lists = record { lists = lists; are = are; each = are_done fit requests asked small };
+        counted = λ lists are. ap length are.goals_are ∙ length-map are.finished goal_in
+            ∙ length_permutation (finished_of searched.board) are.finished are.same;
       }

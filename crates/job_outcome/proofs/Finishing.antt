@@ -22,14 +22,14 @@ goal_word_high q word (goal, names) = subst (λ (x : ℕ). goal_bit ≤ x) names
 
 module _ (q : Query) (capacity : ℕ) (m : Mem) where
   -- the words of the query's search
-  pub record Searched : Type 0 where
+  pub record IsSearchOf : Type 0 where
     pub cells : AreCells (meaning_of q) capacity m.cell
     pub promises : KeepsPromises (meaning_of q) capacity m.cell m.head m.cost m.node
 
   abbrev pub Finishes : GoalKind → Type 0
   Finishes goal = IsFinished (meaning_of q) capacity m.cell m.head (goal_word goal)
 
-module _ (q : Query) (capacity : ℕ) (m : Mem) (its : Searched q capacity m) where
+module _ (q : Query) (capacity : ℕ) (m : Mem) (its : IsSearchOf q capacity m) where
   -- a finished goal's children are finished
   pub all_finished : Finishes q capacity m (root_goal_of q) → (goal : GoalKind) → IsGoal q goal
       → Finishes q capacity m goal

@@ -1,9 +1,12 @@
-pub mod Lists
+pub mod ListLemmas
 pub mod Places
 pub mod Finishing
 pub mod Told
 pub mod Counting
 pub mod Reading
+pub mod Sorting
+pub mod Listed
+pub mod LookedUp
 pub mod Ending
 pub mod Outcomes
 pub mod Finishers

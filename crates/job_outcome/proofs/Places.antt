@@ -1,5 +1,5 @@
 -- What is read of a board's words, one place after the other.
-use Rattle.std.proofs.Common.{◌≡◌, ◌≢◌, ◌==◌, ℕ, zero, suc, ◌+◌, ◌-◌, ◌^◌, ◌<◌, ◌≤◌, nat_le, nat_eq, Bool, true, false}
+use Rattle.std.proofs.Common.{◌≡◌, ◌≢◌, ◌==◌, ℕ, zero, suc, ◌^◌, ◌<◌, ◌≤◌, nat_le, nat_eq, Bool, true, false}
 use Rattle.std.proofs.Common.{cond, List, [], ◌∷◌, ◌++◌, map, All, Contains, refl, sym, subst, ap}
 use Rattle.std.proofs.Common.{◌∙◌, arith, ◌⊎◌, inl, inr, leb-true, leb-false, eqb-true, ne_eqb}
 use Rattle.std.specs.List.{IsDistinct}
@@ -13,7 +13,7 @@ use Rattle.word_table.specs.Probing.{IsWordSet}
 use Rattle.board_rule.specs.Words.{Mem}
 use Rattle.goal_board.specs.declared.answers.Finished.{Finished}
 use Rattle.goal_board.specs.Closed.{cells_below, finished_at, finished_below, with_closed}
-use Rattle.job_outcome.proofs.Lists.{distinct_nil}
+use Rattle.job_outcome.proofs.ListLemmas.{distinct_nil}
 
 abbrev pub goal_in : Finished → ℕ
 goal_in f = f.goal

@@ -13,7 +13,7 @@ use Rattle.goal_space.specs.Answers.{IsAnswerTo, TellsAnswer, no_choice}
 use Rattle.goal_space.specs.declared.goals.GoalKind.{GoalKind}
 use Rattle.goal_space.specs.declared.goals.GoalKind.TheVariants.{Exp, ExpE, Xf, Imp, ImpE, Opt, OptE}
 use Rattle.goal_rules.specs.Answers.{AreWordsOf, IsAnswerWord}
-use Rattle.job_outcome.specs.Finished.{cost_told, told_of}
+use Rattle.job_outcome.specs.Searched.{cost_told, told_of}
 use Rattle.goal_board.specs.declared.answers.Finished.{Finished}
 
 -- what chooses no plan costs nothing

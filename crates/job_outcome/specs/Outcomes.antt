@@ -1,24 +1,27 @@
--- What a finished search gives.
-use Rattle.std.specs.Prelude.{◌≡◌, ℕ, ◌+◌, ◌<◌, ◌≤◌, true, false, nat_eq, List, length, map, Some, ⊤}
-use Rattle.std.specs.List.{All, AllZip, Contains, IsDistinct}
+-- What a search gives.
+use Rattle.std.specs.Prelude.{◌≡◌, ℕ, ◌+◌, ◌<◌, ◌≤◌, true, false, nat_eq, List, length, Some, ⊤}
+use Rattle.std.specs.List.{All, AllZip, IsDistinct}
 use Rattle.query_core.specs.declared.query.Query.{Query}
 use Rattle.xform_rules.specs.Closure.{IsClosureOf}
-use Rattle.plan_tree.specs.declared.answers.Answered.{Answered}
 use Rattle.goal_space.specs.Words.{goal_word}
 use Rattle.goal_space.specs.Goals.{root_goal_of}
 use Rattle.goal_space.specs.Entries.{IsEntry, IsGoalWord}
 use Rattle.goal_space.specs.Answers.{AreAnswers, words_told}
+use Rattle.plan_report.specs.Sources.{HasAnswers}
 use Rattle.goal_children.specs.Listed.{AreGoalsOf}
 use Rattle.board_rule.specs.Records.{Ended}
 use Rattle.board_rule.specs.Words.{cell_word}
-use Rattle.board_rule.specs.Looks.{Looked}
+use Rattle.board_rule.specs.Looks.{Looked, ShowsClosed, ShowsFull}
 use Rattle.board_rule.specs.Seats.{Among}
 use Rattle.board_rule.specs.declared.hands.Hands.{Hands}
-use Rattle.goal_board.specs.Closed.{ClosesWith}
-use Rattle.goal_board.specs.declared.answers.Closed.{Closed}
-use Rattle.goal_board.specs.declared.answers.Finished.{Finished}
+use Rattle.goal_board.specs.Closed.{IsFirstReady}
+use Rattle.goal_board.specs.Closing.{mem_of, is_full, HasFinished, ClosesWith}
+use Rattle.goal_board.specs.declared.closing.ClosedBoard.{ClosedBoard}
 use Rattle.goal_rules.specs.Meaning.{meaning_of}
 use Rattle.goal_rules.specs.declared.rules.Rules.{Rules}
+use Rattle.job_outcome.specs.Searched.{answers_of, goals_counted, AreListsOf, HasLists}
+use Rattle.job_outcome.specs.declared.searched.Lists.{Lists}
+use Rattle.job_outcome.specs.declared.searched.Searched.{Searched}
 use Rattle.job_outcome.specs.declared.outcome.Outcome.{Outcome}
 use Rattle.job_outcome.specs.declared.outcome.Outcome.TheVariants.{Done, Full, Unfinished}
 
@@ -41,24 +44,16 @@ pub record FitsIn (q : Query) (capacity : ℕ) (members goals : List ℕ) : Type
 
 -- a seat with these hands closed the board of the query's search, which has that many cells; its looks show the root's
 -- goal
-pub record ClosesSearch (q : Query) (capacity place : ℕ) (v : Hands Rules) (closed : Closed) : Type 0 where
+pub record ClosesSearch (q : Query) (capacity place : ℕ) (v : Hands Rules) (board : ClosedBoard) : Type 0 where
   pub rules : Rules
   pub its_query : rules.query.now ≡ q
-  pub closes : ClosesWith (λ (r : Rules). meaning_of r.query.now) rules capacity v closed
+  pub closes : ClosesWith (λ (r : Rules). meaning_of r.query.now) rules capacity v board
   pub near : place < capacity
   pub root : Looked v.looks (cell_word place) (goal_word (root_goal_of q))
 
--- the goal is one of these
-abbrev pub HasGoal : List Finished → ℕ → Type 0
-HasGoal finished goal = Contains (map (λ (f : Finished). f.goal) finished) goal
-
--- the goal is among those that are finished
-abbrev pub HasFinished : Closed → ℕ → Type 0
-HasFinished closed goal = HasGoal closed.finished.items goal
-
 -- the root's goal is finished
-abbrev pub HasFinishedRoot : Query → Closed → Type 0
-HasFinishedRoot q closed = HasFinished closed (goal_word (root_goal_of q))
+abbrev pub HasFinishedRoot : Query → ClosedBoard → Type 0
+HasFinishedRoot q board = HasFinished board (goal_word (root_goal_of q))
 
 -- ---- outcomes
 
@@ -75,53 +70,73 @@ abbrev pub AreFinishers : (cell : ℕ → ℕ) → (done : List Ended) → (goal
 AreFinishers cell done = AllZip (IsFinisher cell done)
 
 -- all members, all goals, which are as many as fit, the answers to all goals and who finished them, in one order
-pub record IsDone (q : Query) (capacity : ℕ) (cell : ℕ → ℕ) (done : List Ended)
-    (members goals : List ℕ) (answers : List Answered) (who : List ℕ) : Type 0 where
-  pub fits : FitsIn q capacity members goals
-  pub are_answers : AreAnswers q answers
-  pub in_order : words_told answers ≡ goals
-  pub finishers : AreFinishers cell done goals who
+pub record AreDone (q : Query) (capacity : ℕ) (cell : ℕ → ℕ) (done : List Ended) (lists : Lists) : Type 0 where
+  pub fits : FitsIn q capacity lists.members lists.goals
+  pub are_answers : AreAnswers q lists.answers.list
+  pub in_order : words_told lists.answers.list ≡ lists.goals
+  pub finishers : AreFinishers cell done lists.goals lists.who
+
+-- the search has the answers to all goals, and its lists are such, with as many goals as are counted
+pub record IsDone (q : Query) (capacity : ℕ) (done : List Ended) (searched : Searched) : Type 0 where
+  pub answers : HasAnswers q (answers_of searched)
+  pub lists : HasLists searched (AreDone q capacity (mem_of searched.board).cell done)
+  pub counted : (lists : Lists) → AreListsOf searched lists → length lists.goals ≡ goals_counted searched
 
 -- the root's goal is finished, and the board wasn't full
-pub record IsFinished (q : Query) (closed : Closed) : Type 0 where
-  pub root : HasFinishedRoot q closed
-  pub not_full : closed.full ≡ false
+pub record IsFinished (q : Query) (board : ClosedBoard) : Type 0 where
+  pub root : HasFinishedRoot q board
+  pub not_full : is_full board ≡ false
 
 -- the root's goal isn't finished, and the board was full: the query has more entries than cells
-pub record IsFullFor (q : Query) (capacity : ℕ) (closed : Closed) (told : ℕ) : Type 0 where
-  pub open_root : HasFinishedRoot q closed → ⊥
-  pub full : closed.full ≡ true
+pub record IsFullFor (q : Query) (capacity : ℕ) (board : ClosedBoard) (told : ℕ) : Type 0 where
+  pub open_root : HasFinishedRoot q board → ⊥
+  pub full : is_full board ≡ true
   pub same : told ≡ capacity
   pub more : HasMoreEntries q capacity
 
 -- the root's goal isn't finished, the board wasn't full, and this goal is ready
-pub record IsUnfinished (q : Query) (closed : Closed) (goal : ℕ) : Type 0 where
-  pub open_root : HasFinishedRoot q closed → ⊥
-  pub not_full : closed.full ≡ false
-  pub is_ready : closed.ready ≡ Some goal
+pub record IsUnfinished (q : Query) (board : ClosedBoard) (goal : ℕ) : Type 0 where
+  pub open_root : HasFinishedRoot q board → ⊥
+  pub not_full : is_full board ≡ false
+  pub is_ready : IsFirstReady (meaning_of q) (mem_of board) board.capacity (Some goal)
   pub is_goal : IsGoalWord q goal
 
--- what the search gave: the board was full exactly where this says so
-abbrev pub IsOutcome : Query → (capacity : ℕ) → (cell : ℕ → ℕ) → (done : List Ended) → Closed → Outcome → Type 0
-IsOutcome q capacity cell done closed (Done members goals answers who) =
-    IsFinished q closed × IsDone q capacity cell done members goals answers.list who
-IsOutcome q capacity cell done closed (Full told) = IsFullFor q capacity closed told
-IsOutcome q capacity cell done closed (Unfinished goal) = IsUnfinished q closed goal
+-- what the search gave, whose board was this: it was full exactly where this says so
+abbrev pub IsOutcome : Query → (capacity : ℕ) → (done : List Ended) → ClosedBoard → Outcome → Type 0
+IsOutcome q capacity done board (Done searched) =
+    (searched.board ≡ board) × IsFinished q board × IsDone q capacity done searched
+IsOutcome q capacity done board (Full told) = IsFullFor q capacity board told
+IsOutcome q capacity done board (Unfinished goal) = IsUnfinished q board goal
 
 -- all goals are finished
 abbrev pub IsDoneCase : Outcome → Type 0
-IsDoneCase (Done members goals answers who) = ⊤
+IsDoneCase (Done searched) = ⊤
 IsDoneCase (Full told) = ⊥
 IsDoneCase (Unfinished goal) = ⊥
 
 -- the board was full
 abbrev pub IsFullCase : Outcome → Type 0
-IsFullCase (Done members goals answers who) = ⊥
+IsFullCase (Done searched) = ⊥
 IsFullCase (Full told) = ⊤
 IsFullCase (Unfinished goal) = ⊥
 
 -- nothing is left to do
 abbrev pub IsEnd : Outcome → Type 0
-IsEnd (Done members goals answers who) = ⊤
+IsEnd (Done searched) = ⊤
 IsEnd (Full told) = ⊤
 IsEnd (Unfinished goal) = ⊥
+
+-- ---- what is told of a board
+
+-- some seat closed the board of the query's search
+abbrev pub IsSearchBoard : Query → (capacity : ℕ) → ClosedBoard → Type 0
+IsSearchBoard q capacity board = (place : ℕ) × (v : Hands Rules) × ClosesSearch q capacity place v board
+
+-- by whichever seat closed it: what the search gave, and what that seat saw of it
+pub record TellsOutcome (q : Query) (capacity : ℕ) (board : ClosedBoard) (gave : Outcome) : Type 0 where
+  pub outcome : (place : ℕ) (v : Hands Rules) → ClosesSearch q capacity place v board
+      → IsOutcome q capacity v.done board gave
+  pub finished : (place : ℕ) (v : Hands Rules) → ClosesSearch q capacity place v board → ShowsClosed v.looks place
+      → IsDoneCase gave
+  pub full : (place : ℕ) (v : Hands Rules) → ClosesSearch q capacity place v board → ShowsFull v.looks
+      → IsFullCase gave

@@ -2,11 +2,11 @@ ghost use Rattle.std.specs.Prelude.{◌≡◌, ◌≢◌, ℕ, ◌^◌, ◌<◌,
 ghost use Rattle.std.specs.Coded.{Coded-set};
 ghost use Rattle.board_rule.specs.Seats.{parted, part, joined};
 ghost use Rattle.goal_board.specs.Seats.{hands};
-ghost use Rattle.goal_board.specs.Closed.{ClosesWith};
+ghost use Rattle.goal_board.specs.Closing.{ClosesWith};
 
 use crate::goal_turns::GoalTurns;
 use crate::worker::Worker;
-use goal_board::{Board, Closed, GoalRules, Hints, Inserted};
+use goal_board::{Board, ClosedBoard, GoalRules, Hints, Inserted};
 use place_hints::PlaceHints;
 use std::alloc::{AllocError, Global};
 
@@ -115,15 +115,14 @@ impl<R: GoalRules, J: GoalTurns<R>> Scheduler<R, J> {
         self.board.join(&mut worker.seat, seat);
     }
 
-    /// Ends the board, whose last worker this is, and reads what it held. After `Err` all is gone.
-    pub fn close(self, alloc: Global, worker: Worker<R>) -> Result<Closed, AllocError>
+    /// Ends the board, whose last worker this is.
+    pub fn close(self, worker: Worker<R>) -> ClosedBoard
     where
         R: Drop,
         J: Drop,
         requires worker { IsFreeWorkerOf R.meaning self.board self.root self.goal worker }
         requires parts { (hands worker.seat).parts ≡ 64 }
-        ensures { IfOk result
-            (ClosesWith R.meaning self.board.setup.rules self.board.setup.capacity (hands worker.seat)) }
+        ensures { ClosesWith R.meaning self.board.setup.rules self.board.setup.capacity (hands worker.seat) result }
     {
         let Scheduler {
             board,
@@ -137,6 +136,6 @@ impl<R: GoalRules, J: GoalTurns<R>> Scheduler<R, J> {
             next: _,
             number: _,
         } = worker;
-        board.close(alloc, seat)
+        board.close(seat)
     }
 }

@@ -3,6 +3,7 @@ pub mod OneQuery
 pub mod Limits
 pub mod Refusals
 pub mod SectionTexts
+pub mod NoSections
 pub mod Files
 pub mod DumpRefusals
 pub mod Searching

@@ -5,7 +5,9 @@ use Rattle.plan_tree.specs.Found.{IsFound}
 use Rattle.plan_tree.specs.declared.plan.Found.{Found}
 use Rattle.plan_tree.specs.declared.plan.Found.TheVariants as founds
 use Rattle.plan_lines.specs.Found.{IsFoundText}
-use Rattle.job_engine.specs.Runs.{Exceeds}
+use Rattle.job_outcome.specs.Searched.{goals_counted}
+use Rattle.job_outcome.specs.declared.searched.Searched.{Searched}
+use Rattle.job_engine.specs.Runs.{IsDoneBy, Exceeds}
 use Rattle.command_line.specs.declared.settings.Settings.{Settings}
 use Rattle.orca_cli.specs.Answers.{HasRoom, Note, noted, NotesGoals, IsSearchEnd, planned, unplanned, too_many}
 use Rattle.orca_cli.specs.Searches as searches
@@ -29,6 +31,27 @@ pub plan_of_found : (query : Query) (found : Found) (status : Status) (text : Li
 plan_of_found query (founds.Least plan cost) status text is (tree, spells, least, costs) told =
     searches.least is (record { plan = tree; least = least; lines = told tree spells least.serves.valid costs })
 plan_of_found query founds.NoPlan status text is impossible told = searches.none is impossible told
+
+-- a search that is done had room, and its note says how many goals the query has
+module _ (settings : Settings) (query : Query) (searched : Searched)
+    (done : IsDoneBy query settings.capacity settings.workers searched) where
+  pub room_of : HasRoom query settings.capacity
+  room_of =
+      let there = done.lists.lists in
+      record {
+        members = there.members;
+        goals = there.goals;
+        fits = (done.lists.each there done.lists.are).fits;
+      }
+
+  pub notes_of : (note : Note) → note ≡ noted settings (goals_counted searched) → NotesGoals settings query note
+  notes_of note is =
+      let there = done.lists.lists in
+      record {
+        goals = there.goals;
+        all_goals = (done.lists.each there done.lists.are).fits.all_goals;
+        is = is ∙ ap (noted settings) (sym (done.counted there done.lists.are));
+      }
 
 module _ (Tells : List ℕ → List ℕ → Type 0) (settings : Settings) (query : Query) (note : Note)
     (room : HasRoom query settings.capacity) (notes : NotesGoals settings query note) where

@@ -1,12 +1,14 @@
 //! The plan of a query and its text, from the answers to all goals.
 ghost use Rattle.std.specs.Prelude.{◌≡◌, IfOk};
 ghost use Rattle.request_props.specs.Numbered.{IsProps};
-ghost use Rattle.goal_space.specs.Answers.{AreAnswers};
+ghost use Rattle.plan_report.specs.Sources.{HasAnswers};
+ghost use Rattle.job_outcome.specs.Searched.{answers_of};
 ghost use Rattle.orca_cli.specs.Searches.{IsPlanOf, status_for};
 
 use crate::status::Status;
+use job_outcome::Searched;
 use plan_report::{extract, plan_text};
-use plan_tree::{Answers, Found};
+use plan_tree::Found;
 use query_core::Query;
 use request_props::Props;
 use std::alloc::{AllocError, Global};
@@ -23,13 +25,13 @@ pub fn planned(
     alloc: Global,
     query: &Query,
     props: &Props,
-    answers: &Answers,
+    searched: &Searched,
 ) -> Result<PlanLines, AllocError>
     requires props { IsProps query.now props.now }
-    requires answers { AreAnswers query.now answers.now.list }
+    requires answers { HasAnswers query.now (answers_of searched.now) }
     ensures { IfOk result (λ plan. IsPlanOf query.now plan.status plan.lines.items) }
 {
-    let found = extract(alloc, query, props, answers)?;
+    let found = extract(alloc, query, props, searched)?;
     let status = status_of(&found);
     Ok(PlanLines {
         status,

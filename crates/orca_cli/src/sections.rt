@@ -1,5 +1,6 @@
 //! The sections that may stand behind the plan.
-ghost use Rattle.std.specs.Prelude.{◌≡◌, ◌++◌, IfOk};
+ghost use Rattle.std.specs.Prelude.{ℕ, ◌≡◌, ◌++◌, List, false, IfOk};
+ghost use Rattle.query_core.specs.declared.query.Query.{Query as AnyQuery};
 ghost use Rattle.orca_cli.specs.Searches.{IsSearch};
 ghost use Rattle.orca_cli.specs.Sections.{GoesOn, IsBehind, IsByWorker, StartsMemo, IsMemo, IsSectionText, IsTrace};
 ghost use Rattle.orca_cli.specs.Sections.{StartsTrace, is_asked as the_is_asked};
@@ -23,6 +24,13 @@ pub enum Section {
     Trace,
     /// The goals, each with the worker that finished it.
     ByWorker,
+}
+
+/// Whether the command asks for a section.
+pub fn asks_for_sections(settings: Settings) -> bool
+    ensures none { result ≡ false → (query : AnyQuery) (front : List ℕ) → GoesOn settings query front front }
+{
+    settings.memo || settings.trace || settings.by_worker
 }
 
 /// The plan, and behind it the sections that are asked for.

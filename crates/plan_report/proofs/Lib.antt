@@ -1,4 +1,3 @@
-pub mod Searched
 pub mod Rooted
 pub mod PlansAsked
 pub mod Chosen

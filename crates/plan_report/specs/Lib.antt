@@ -1,1 +1,2 @@
 pub mod PlansAsked
+pub mod Sources

@@ -3,6 +3,8 @@
 
 mod extraction;
 mod plans_asked;
+mod source;
 
 pub use extraction::extract;
 pub use plan_lines::plan_text;
+pub use source::AnswerSource;

@@ -119,12 +119,12 @@ fn planned(
     requires ends { (workers : ℕ) × RunEnds query capacity workers outcome.now }
     ensures { IfOk result (IsPlannedQuery query capacity) }
 {
-    let answers = match outcome {
-        Outcome::Done { answers, .. } => answers,
+    let searched = match outcome {
+        Outcome::Done(searched) => searched,
         Outcome::Full { .. } => return Ok(Planned::TooManyEntries { capacity }),
         Outcome::Unfinished { .. } => unreachable!(),
     };
-    match extract(alloc, &query, props, answers)? {
+    match extract(alloc, &query, props, searched)? {
         Found::Least { plan, cost } => {
             let nodes = nodes_of(alloc, &query, props, &plan)?;
             Ok(Planned::Least(LeastPlan { query, cost, nodes }))

@@ -61,7 +61,7 @@ fn find<R: Threads + Wait + Sync, G: Gate>(
     // For the proof: where all entries fit there aren't more.
     entries_fit_or_not();
     match search(rt, alloc, query, props, capacity, workers, gate)? {
-        Outcome::Done { answers, .. } => Ok(Some(extract(alloc, query, props, &answers)?)),
+        Outcome::Done(searched) => Ok(Some(extract(alloc, query, props, &searched)?)),
         Outcome::Full { .. } => Ok(None),
         Outcome::Unfinished { .. } => unreachable!(),
     }

@@ -7,63 +7,66 @@ use Rattle.plan_report.proofs.Chosen.{best_chosen, none_chosen, made_zero, made_
 use Rattle.plan_report.proofs.extraction.+plan_at.Goals as goal
 
 pub plans_asked_at-requires-clause-chosen : goal.plans_asked_at-requires-clause-chosen
-plans_asked_at-requires-clause-chosen t c =
-    let q = c.args.extraction.query.now in
+plans_asked_at-requires-clause-chosen g t c =
+    let q = c.args.query.now in
     let fits = c.goals_are_known.ensures.requests q (goal_of c.args.at) c.requires.goal in
-    let found = best_chosen q c.args.at fits c.args.extraction.props.now c.requires.props
+    let found = best_chosen q c.args.at fits c.args.props.now c.requires.props
     (c.answers_are_best.ensures.roots q) (c.best_is_least.ensures q) c.in-Some.best c.in-Some.ensures in
     (found.0, found.1)
 
 -- the plan below is there, for a goal of a lesser rank
 pub plan_at-requires : goal.plan_at-requires
-plan_at-requires t c =
-    let q = c.args.extraction.query.now in
+plan_at-requires g t c =
+    let q = c.args.query.now in
     let fits = c.goals_are_known.ensures.requests q (goal_of c.args.at) c.requires.goal in
-    let found = best_chosen q c.args.at fits c.args.extraction.props.now c.requires.props
+    let found = best_chosen q c.args.at fits c.args.props.now c.requires.props
     (c.answers_are_best.ensures.roots q) (c.best_is_least.ensures q) c.in-Some.best c.in-Some.ensures in
     let over = c.in-One.ensures.over found.0 found.1 in
-    let lower = c.in-One.ensures.lower in (
+    let lower = c.in-One.ensures.lower in
+    λ κs within. (
       omega (arith, lower.lower, c.decreases),
-      (c.requires.props, (c.requires.answers, (lower.is_goal, (over.0, over.1)))),
+      (within, (c.requires.props, (c.requires.answers, (lower.is_goal, (over.0, over.1))))),
     )
 
 pub plan_at-requires-in-Two : goal.plan_at-requires-in-Two
-plan_at-requires-in-Two t c =
-    let q = c.args.extraction.query.now in
+plan_at-requires-in-Two g t c =
+    let q = c.args.query.now in
     let fits = c.goals_are_known.ensures.requests q (goal_of c.args.at) c.requires.goal in
-    let found = best_chosen q c.args.at fits c.args.extraction.props.now c.requires.props
+    let found = best_chosen q c.args.at fits c.args.props.now c.requires.props
     (c.answers_are_best.ensures.roots q) (c.best_is_least.ensures q) c.in-Some.best c.in-Some.ensures in
     let over = c.in-Two.ensures.over found.0 found.1 in
-    let lower = c.in-Two.ensures.lower.0 in (
+    let lower = c.in-Two.ensures.lower.0 in
+    λ κs within. (
       omega (arith, lower.lower, c.decreases),
-      (c.requires.props, (c.requires.answers, (lower.is_goal, (over.0, over.2)))),
+      (within, (c.requires.props, (c.requires.answers, (lower.is_goal, (over.0, over.2))))),
     )
 
 pub plan_at-requires-in-Two-2 : goal.plan_at-requires-in-Two-2
-plan_at-requires-in-Two-2 t c =
-    let q = c.args.extraction.query.now in
+plan_at-requires-in-Two-2 g t c =
+    let q = c.args.query.now in
     let fits = c.goals_are_known.ensures.requests q (goal_of c.args.at) c.requires.goal in
-    let found = best_chosen q c.args.at fits c.args.extraction.props.now c.requires.props
+    let found = best_chosen q c.args.at fits c.args.props.now c.requires.props
     (c.answers_are_best.ensures.roots q) (c.best_is_least.ensures q) c.in-Some.best c.in-Some.ensures in
     let over = c.in-Two.ensures.over found.0 found.1 in
-    let lower = c.in-Two.ensures.lower.1 in (
+    let lower = c.in-Two.ensures.lower.1 in
+    λ κs within. (
       omega (arith, lower.lower, c.decreases),
-      (c.requires.props, (c.requires.answers, (lower.is_goal, (over.1, over.3)))),
+      (within, (c.requires.props, (c.requires.answers, (lower.is_goal, (over.1, over.3))))),
     )
 
 -- where there is a plan, one is answered
 pub unreachable-requires : goal.unreachable-requires
-unreachable-requires t c =
-    let q = c.args.extraction.query.now in
+unreachable-requires g t c =
+    let q = c.args.query.now in
     let fits = c.goals_are_known.ensures.requests q (goal_of c.args.at) c.requires.goal in
     none_chosen q c.args.at fits (c.best_is_least.ensures q) c.in-None.ensures c.requires.there.0
     c.requires.there.1.serves
 
 pub returns-in-Zero : goal.returns-in-Zero
-returns-in-Zero t c =
-    let q = c.args.extraction.query.now in
+returns-in-Zero g t c =
+    let q = c.args.query.now in
     let fits = c.goals_are_known.ensures.requests q (goal_of c.args.at) c.requires.goal in
-    let found = best_chosen q c.args.at fits c.args.extraction.props.now c.requires.props
+    let found = best_chosen q c.args.at fits c.args.props.now c.requires.props
     (c.answers_are_best.ensures.roots q) (c.best_is_least.ensures q) c.in-Some.best c.in-Some.ensures in
     let one = c.least_is_one.ensures q c.requires.props.few_lists c.requires.props.few_orders in (
       leaf (root_node found.0),
@@ -72,10 +75,10 @@ returns-in-Zero t c =
     )
 
 pub returns-in_ok-new-in-One : goal.returns-in_ok-new-in-One
-returns-in_ok-new-in-One t c =
-    let q = c.args.extraction.query.now in
+returns-in_ok-new-in-One g t c =
+    let q = c.args.query.now in
     let fits = c.goals_are_known.ensures.requests q (goal_of c.args.at) c.requires.goal in
-    let found = best_chosen q c.args.at fits c.args.extraction.props.now c.requires.props
+    let found = best_chosen q c.args.at fits c.args.props.now c.requires.props
     (c.answers_are_best.ensures.roots q) (c.best_is_least.ensures q) c.in-Some.best c.in-Some.ensures in
     let one = c.least_is_one.ensures q c.requires.props.few_lists c.requires.props.few_orders in
     let made = made_one q one c.args.at c.in-Some.best.node found.0 found.1 c.in-One.below
@@ -89,10 +92,10 @@ returns-in_ok-new-in-One t c =
     )
 
 pub returns-in_ok-new-in-Two-2 : goal.returns-in_ok-new-in-Two-2
-returns-in_ok-new-in-Two-2 t c =
-    let q = c.args.extraction.query.now in
+returns-in_ok-new-in-Two-2 g t c =
+    let q = c.args.query.now in
     let fits = c.goals_are_known.ensures.requests q (goal_of c.args.at) c.requires.goal in
-    let found = best_chosen q c.args.at fits c.args.extraction.props.now c.requires.props
+    let found = best_chosen q c.args.at fits c.args.props.now c.requires.props
     (c.answers_are_best.ensures.roots q) (c.best_is_least.ensures q) c.in-Some.best c.in-Some.ensures in
     let one = c.least_is_one.ensures q c.requires.props.few_lists c.requires.props.few_orders in
     let made = made_two q one c.args.at c.in-Some.best.node found.0 found.1 c.in-Two.left c.in-Two.right

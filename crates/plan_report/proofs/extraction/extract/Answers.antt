@@ -21,21 +21,21 @@ is_root : (q : Query) (group : KeyParts) (wanted : Request) → root_of q ≡ gr
 is_root q group wanted same same_too = cc
 
 pub best_at-requires-clause-goal : goal.best_at-requires-clause-goal
-best_at-requires-clause-goal c =
+best_at-requires-clause-goal g c =
     let q = c.args.query.now in
     let root = is_root q c.group.result c.args.props.now.root (c.group.ensures.only (root_of q) c.root.ensures)
     (c.root_request_is_collected.ensures q c.args.props.now c.requires.props) in
     subst (λ a. IsGoal q (goal_of a)) root root_goal
 
 pub plan_at-requires-clause-goal : goal.plan_at-requires-clause-goal
-plan_at-requires-clause-goal c =
+plan_at-requires-clause-goal g c =
     let q = c.args.query.now in
     let root = is_root q c.group.result c.args.props.now.root (c.group.ensures.only (root_of q) c.root.ensures)
     (c.root_request_is_collected.ensures q c.args.props.now c.requires.props) in
     subst (λ a. IsGoal q (goal_of a)) root root_goal
 
 pub plan_at-requires-clause-there : goal.plan_at-requires-clause-there
-plan_at-requires-clause-there c =
+plan_at-requires-clause-there g c =
     let q = c.args.query.now in
     let at : PlanAsked = record { group = c.group.result; wanted = c.args.props.now.root } in
     let root = is_root q c.group.result c.args.props.now.root (c.group.ensures.only (root_of q) c.root.ensures)
@@ -48,7 +48,7 @@ plan_at-requires-clause-there c =
 
 -- the plan is the least one, and there is only one, so the answer is of it
 pub returns-in_ok-plan_at-in-Some : goal.returns-in_ok-plan_at-in-Some
-returns-in_ok-plan_at-in-Some c =
+returns-in_ok-plan_at-in-Some g c =
     let q = c.args.query.now in
     let at : PlanAsked = record { group = c.group.result; wanted = c.args.props.now.root } in
     let root = is_root q c.group.result c.args.props.now.root (c.group.ensures.only (root_of q) c.root.ensures)
@@ -63,7 +63,7 @@ returns-in_ok-plan_at-in-Some c =
     (tree, spells, subst (λ a. IsLeastAt q a tree) (sym root) least, found.2 ∙ ap (cost_of q) (sym same))
 
 pub returns-in-None : goal.returns-in-None
-returns-in-None c =
+returns-in-None g c =
     let q = c.args.query.now in
     let at : PlanAsked = record { group = c.group.result; wanted = c.args.props.now.root } in
     let root = is_root q c.group.result c.args.props.now.root (c.group.ensures.only (root_of q) c.root.ensures)

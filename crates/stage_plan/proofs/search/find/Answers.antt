@@ -6,10 +6,11 @@ use Rattle.stage_plan.proofs.search.find.Goals as goal
 -- all entries fit, so there aren't more
 pub returns-in-Done : goal.returns-in-Done
 returns-in-Done g c =
-    let is : c.in_ok-answers.field-0
-    ≡ outcomes.Done c.in-Done.members c.in-Done.goals c.in-Done.answers c.in-Done.who = cc in
+    let is : c.in_ok-answers.field-0 ≡ outcomes.Done c.in-Done.searched = cc in
     let done =
-    subst (λ outcome. RunEnds c.args.query.now c.args.capacity c.args.workers outcome) is c.in_ok-answers.ensures in (
-      c.entries_fit_or_not.ensures c.args.query.now c.args.capacity c.in-Done.members c.in-Done.goals done.fits,
+    subst (λ outcome. RunEnds c.args.query.now c.args.capacity c.args.workers outcome) is c.in_ok-answers.ensures in
+    let there = done.lists.lists in (
+      c.entries_fit_or_not.ensures c.args.query.now c.args.capacity there.members there.goals
+          (done.lists.each there done.lists.are).fits,
       c.in_ok-extract-in-Done.ensures,
     )

@@ -1,4 +1,5 @@
 use Rattle.std.proofs.Common.{◌≡◌, ◌<◌, length, subst}
+use Rattle.std.proofs.lemmas.Result.{IfOk-weaker}
 use Rattle.batch_search.proofs.Ending.{props_here, ends_here}
 use Rattle.batch_search.proofs.queries.QueryBatchBatch.run.Goals as goal
 
@@ -7,9 +8,14 @@ search_alone-requires-clause-props c =
     let e : c.args.self.now ≡ (c.self.inside.queries.now, c.self.inside.capacity) = cc in
     props_here _ _ c.args.item _ _ c.self.invariant.1 (subst (λ v. c.args.item < length v.0) e c.requires)
 
+pub listed-requires : goal.listed-requires
+listed-requires c = (c.index-self-at.result, c.self.inside.capacity, c.in_ok-outcome.ensures.ends)
+
 pub returns : goal.returns
 returns c =
     let e : c.args.self.now ≡ (c.self.inside.queries.now, c.self.inside.capacity) = cc in
-    ends_here c.self.inside.queries.now c.self.inside.capacity c.args.item c.args.self.now c.index-self-at.result
-    c.search_alone.result e
-    (subst (λ v. c.args.item < length v.0) e c.requires) c.search_alone.ensures.ends
+    let q = c.index-self-at.result in
+    ends_here c.self.inside.queries.now c.self.inside.capacity c.args.item c.args.self.now q c.listed.result e
+    (subst (λ v. c.args.item < length v.0) e c.requires)
+    (IfOk-weaker c.listed.result _ _ (λ made ends. ends q c.self.inside.capacity c.in_ok-outcome.ensures.ends)
+    c.listed.ensures)
