@@ -12,11 +12,11 @@ use Rattle.std.proofs.lemmas.Nat.{pow-add}
 use Rattle.std.proofs.lemmas.Nat.Bits.{bit_at-lt, bit_at_lowest, bit_at-suc}
 use Rattle.std.specs.Int.{bit_at}
 use Rattle.query_core.specs.Sets.{bit, Has, Adds}
-use Rattle.xform_rules.specs.Rules.{can_be_off, rule_number}
+use Rattle.query_stage.specs.OffRules.{MayBeOff}
+use Rattle.xform_rules.specs.Rules.{all_rules, can_be_off, rule_number}
 use Rattle.xform_rules.specs.declared.rules.Rule.{Rule}
-use Rattle.xform_rules.proofs.EveryRule.{every_rule}
+use Rattle.xform_rules.proofs.EveryRule.{every_rule, rule_few}
 use Rattle.command_line.specs.Rules.{may_be_off, off_set}
-use Rattle.command_line.specs.Options.{MayBeOff}
 use Rattle.command_line.specs.Reading.{set_where_off}
 use Rattle.command_line.specs.Drafts.{IsOffSet}
 use Rattle.command_line.proofs.GivenNumbers.{no_bits, more_bits, comes_twice}
@@ -77,35 +77,33 @@ bit_room (suc n) set half none small =
     bit_room n (set / 2) half (sym (bit_at-suc set n) ∙ none) (omega (arith, small, of_both)) in
     omega (arith, inner, of_both, twice)
 
--- so has a bit among those from 2 to 14
-numbers_fit : (n set : ℕ) → set < 32768 → set % 4 ≡ 0 → 2 ≤ n → n ≤ 14 → bit set n ≡ 0
-    → (set + 2 ^ n < 32768) × ((set + 2 ^ n) % 4 ≡ 0)
+-- so has a bit from 2 up to the greatest one
+numbers_fit : (most n set : ℕ) → set < 2 ^ (most + 1) → set % 4 ≡ 0 → 2 ≤ n → n ≤ most → bit set n ≡ 0
+    → (set + 2 ^ n < 2 ^ (most + 1)) × ((set + 2 ^ n) % 4 ≡ 0)
 unfolding bit
-numbers_fit n set small whole low high none =
-    let together : n + (1 + (14 - n)) ≡ 15 = omega (arith, high) in
-    let bound : 2 ^ n * (2 * 2 ^ (14 - n)) ≡ 32768 =
-    ap (λ (x : ℕ). 2 ^ n * x) (sym (pow-add 2 1 (14 - n))) ∙ sym (pow-add 2 n (1 + (14 - n)))
+numbers_fit most n set small whole low high none =
+    let together : n + (1 + (most - n)) ≡ most + 1 = omega (arith, high) in
+    let bound : 2 ^ n * (2 * 2 ^ (most - n)) ≡ 2 ^ (most + 1) =
+    ap (λ (x : ℕ). 2 ^ n * x) (sym (pow-add 2 1 (most - n))) ∙ sym (pow-add 2 n (1 + (most - n)))
     ∙ ap (λ (x : ℕ). 2 ^ x) together in
-    let fits = bit_room n set (2 ^ (14 - n)) none (omega (arith, small, bound)) in
+    let fits = bit_room n set (2 ^ (most - n)) none (omega (arith, small, bound)) in
     let parts : n ≡ 2 + (n - 2) = omega (arith, low) in
     let fourth : 2 ^ n ≡ 4 * 2 ^ (n - 2) = ap (λ (x : ℕ). 2 ^ x) parts ∙ pow-add 2 2 (n - 2) in
     (omega (arith, fits, bound), omega (arith, fourth, whole))
 
--- a rule that can be off has such a number
-off_number : (rule : Rule) → can_be_off rule ≡ true → (2 ≤ rule_number rule) × (rule_number rule ≤ 14)
+-- a rule that can be off has a number from 2 on
+off_number : (rule : Rule) → can_be_off rule ≡ true → 2 ≤ rule_number rule
 off_number rule can =
     let low : (not (can_be_off rule) || nat_le 2 (rule_number rule)) ≡ true =
-    every_rule (λ r. not (can_be_off r) || nat_le 2 (rule_number r)) refl rule in (
-      leb-true 2 (rule_number rule) (subst (λ b. (not b || nat_le 2 (rule_number rule)) ≡ true) can low),
-      leb-true (rule_number rule) 14 (every_rule (λ r. nat_le (rule_number r) 14) refl rule),
-    )
+    every_rule (λ r. not (can_be_off r) || nat_le 2 (rule_number r)) refl rule in
+    leb-true 2 (rule_number rule) (subst (λ b. (not b || nat_le 2 (rule_number rule)) ≡ true) can low)
 
 -- a rule that can be off may be off beside others
 pub has_room : (rule : Rule) (set : ℕ) → MayBeOff set → can_be_off rule ≡ true → bit set (rule_number rule) ≡ 0
     → MayBeOff (set + 2 ^ rule_number rule)
 has_room rule set is can none =
-    let (low, high) = off_number rule can in
-    let fit = numbers_fit (rule_number rule) set is.below is.expansion_on low high none in
+    let fit = numbers_fit (length all_rules) (rule_number rule) set is.below is.expansion_on (off_number rule can)
+    (rule_few rule) none in
     record { below = fit.0; expansion_on = fit.1 }
 
 -- a bit that isn't 1 is 0

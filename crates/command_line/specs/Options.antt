@@ -137,7 +137,3 @@ pub record AreSettings (c : Settings) : Type 0 where
   pub workers : IsWithin 1 64 c.workers
   pub capacity : IsWithin 64 1048576 c.capacity
   pub options : AreOptions c.options
-
--- the rules of the set may be off in a query
-abbrev pub MayBeOff : ℕ → Type 0
-MayBeOff set = AreOptions (record { root = One; off = set })

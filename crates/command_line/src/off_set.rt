@@ -1,7 +1,7 @@
 //! Which rules are off.
 ghost use Rattle.std.specs.Prelude.{◌≡◌};
 ghost use Rattle.std.proofs.Props.{props};
-ghost use Rattle.command_line.specs.Options.{MayBeOff};
+ghost use Rattle.query_stage.specs.OffRules.{MayBeOff};
 
 /// Rules that are off, as the bits of their numbers: some of those that can be off.
 #[derive(Clone, Copy)]

@@ -58,17 +58,17 @@ text_short options catalog query are few fewer =
     (omega (arith, length-append (codes "catalog ") catalog)) of_query in
     let of_print = line_longer (print_line options.memo options.trace) from_catalog 16 1114128
     (print_short options.memo options.trace) of_catalog in
-    let of_off = line_longer (off_line options.options.off) from_print 256 1114145 (off_short options.options.off)
+    let of_off = line_longer (off_line options.options.off) from_print 1028 1114145 (off_short options.options.off)
     of_print in
-    let of_root = line_longer (root_line options.options.root) from_off 11 1114402 (root_short options.options.root)
+    let of_root = line_longer (root_line options.options.root) from_off 11 1115174 (root_short options.options.root)
     of_off in
-    let of_capacity = line_longer (capacity_line options.capacity) from_root 16 1114414
+    let of_capacity = line_longer (capacity_line options.capacity) from_root 16 1115186
     (capacity_short options.capacity are.capacity) of_root in
-    let whole = line_longer version_line (capacity_line options.capacity ∷ from_root) 11 1114431 (omega arith)
+    let whole = line_longer version_line (capacity_line options.capacity ∷ from_root) 11 1115203 (omega arith)
     of_capacity in
     at_most (length (lines_text (version_line ∷ capacity_line options.capacity ∷ from_root))) whole
   where
-    at_most : (n : ℕ) → n ≤ 1114443 → n ≤ 1179648
+    at_most : (n : ℕ) → n ≤ 1115215 → n ≤ 1179648
     at_most n few_bytes = omega arith
 
 -- ---- the dump

@@ -15,7 +15,7 @@ use Rattle.xform_rules.specs.Rules.{all_rules, rule_name, rule_number}
 use Rattle.xform_rules.specs.declared.rules.Rule.{Rule}
 use Rattle.xform_rules.specs.declared.rules.Rule.TheVariants as rules
 use Rattle.xform_rules.proofs.EveryRule.{every_rule}
-use Rattle.command_line.specs.Options.{MayBeOff}
+use Rattle.query_stage.specs.OffRules.{MayBeOff}
 use Rattle.command_line.specs.Reading.{off_of}
 use Rattle.command_line.specs.Rules.{rules_word}
 use Rattle.dump_replay.specs.Lines.{is_one_line, off_line, rules_in, rules_line}
@@ -74,7 +74,7 @@ plus_next (first ∷ others) rule = refl
 
 -- a rule that the set has is added
 pub rule_added : (set count : ℕ) (rule : Rule) (line before new next : List ℕ) → IsSpelled set count line before
-    → count < 14 → rule ≡ get_or all_rules count rules.ExpandNAry → bit set (rule_number rule) ≡ 1
+    → count < length all_rules → rule ≡ get_or all_rules count rules.ExpandNAry → bit set (rule_number rule) ≡ 1
     → new ≡ (line ++ before) ++ rule_name rule → next ≡ codes "+" → IsSpelled set (count + 1) new next
 rule_added set count rule line before new next so_far within here has added plus =
     let test : Rule → Bool = λ r. nat_eq (bit set (rule_number r)) 1 in
@@ -92,8 +92,8 @@ rule_added set count rule line before new next so_far within here has added plus
     }
 
 -- a rule that the set hasn't is left out
-pub rule_left : (set count : ℕ) (rule : Rule) (line before : List ℕ) → IsSpelled set count line before → count < 14
-    → rule ≡ get_or all_rules count rules.ExpandNAry → (bit set (rule_number rule) ≡ 1 → ⊥)
+pub rule_left : (set count : ℕ) (rule : Rule) (line before : List ℕ) → IsSpelled set count line before
+    → count < length all_rules → rule ≡ get_or all_rules count rules.ExpandNAry → (bit set (rule_number rule) ≡ 1 → ⊥)
     → IsSpelled set (count + 1) line before
 rule_left set count rule line before so_far within here has_not =
     let test : Rule → Bool = λ r. nat_eq (bit set (rule_number r)) 1 in
@@ -173,11 +173,12 @@ one_set line a b (some word is utf8 read) (some again other utf8_too read_too) =
 
 -- ---- how long the line is
 
-name_short : (rule : Rule) → length (rule_name rule) ≤ 17
+-- there is room for names of 31 bytes
+name_short : (rule : Rule) → length (rule_name rule) ≤ 31
 name_short rule =
-    leb-true (length (rule_name rule)) 17 (every_rule (λ r. nat_le (length (rule_name r)) 17) refl rule)
+    leb-true (length (rule_name rule)) 31 (every_rule (λ r. nat_le (length (rule_name r)) 31) refl rule)
 
-word_short : (some : List Rule) → length (rules_word some) ≤ 18 * length some
+word_short : (some : List Rule) → length (rules_word some) ≤ 32 * length some
 word_short [] = omega arith
 word_short (rule ∷ []) = omega (arith, name_short rule)
 word_short (rule ∷ next ∷ more) = omega (
@@ -187,7 +188,7 @@ word_short (rule ∷ next ∷ more) = omega (
   length-append (rule_name rule) (43 ∷ rules_word (next ∷ more)),
 )
 
-line_short : (some : List Rule) → length (rules_line some) ≤ 18 * length some + 4
+line_short : (some : List Rule) → length (rules_line some) ≤ 32 * length some + 4
 line_short [] = omega arith
 line_short (rule ∷ more) = omega (
   arith,
@@ -195,12 +196,13 @@ line_short (rule ∷ more) = omega (
   length-append (codes "off ") (rules_word (rule ∷ more)),
 )
 
-pub off_short : (set : ℕ) → length (off_line set) ≤ 256
+-- and for as many rules as a set has bits
+pub off_short : (set : ℕ) → length (off_line set) ≤ 32 * 32 + 4
 off_short set =
     let test : Rule → Bool = λ rule. nat_eq (bit set (rule_number rule)) 1 in
-    let few : length (rules_in set) ≤ 14 = omega (
+    let few : length (rules_in set) ≤ length all_rules = omega (
       arith,
       length-filter test all_rules,
       count_by-le-length test all_rules,
     ) in
-    omega (arith, line_short (rules_in set), few)
+    omega (arith, line_short (rules_in set), few, leb-true (length all_rules) 32 refl)

@@ -1,13 +1,16 @@
 -- The rules of a set are read as that set.
-use Rattle.std.proofs.Common.{◌≡◌, ℕ, ◌+◌, ◌*◌, ◌/◌, ◌%◌, ◌^◌, ◌<◌, true, false, cond, List, [], ◌∷◌, map, drop}
-use Rattle.std.proofs.Common.{nat_eq, nat_le, length, Some, refl, sym, ap, ◌∙◌, arith}
+use Rattle.std.proofs.Common.{◌≡◌, ℕ, ◌+◌, ◌*◌, ◌/◌, ◌%◌, ◌^◌, ◌<◌, ◌&&◌, Bool, true, false, cond, List, [], ◌∷◌, map}
+use Rattle.std.proofs.Common.{drop, nat_eq, nat_le, length, Some, refl, sym, ap, subst, ◌∙◌, arith}
 use Rattle.std.specs.List.{fold, list_all}
+use Rattle.std.proofs.Math.Nat.{div-div-eq-div-mul, div-eq_of_lt}
+use Rattle.std.proofs.lemmas.Bool.{and_parts}
 use Rattle.std.proofs.lemmas.Bool.Decides.{nat_tests}
+use Rattle.std.proofs.lemmas.Nat.{pow-add}
 use Rattle.query_core.specs.Differ.{numbers_differ}
 use Rattle.query_core.specs.Sets.{bit}
 use Rattle.xform_rules.specs.Rules.{all_rules, can_be_off, rule_number}
 use Rattle.xform_rules.specs.declared.rules.Rule.{Rule}
-use Rattle.command_line.specs.Options.{MayBeOff}
+use Rattle.query_stage.specs.OffRules.{MayBeOff}
 use Rattle.command_line.specs.Reading.{off_of}
 use Rattle.command_line.specs.Rules.{may_be_off, off_set, rules_word}
 use Rattle.command_line.proofs.Values.{off_read}
@@ -27,17 +30,6 @@ bit_adds set n = by_bit (set / 2 ^ n % 2) (omega arith)
       | false ↦ λ is. let none : b ≡ 0 = grind (arith, nat_tests) in rw none (omega arith)
     ] refl
 
--- a number is the sum of its bits, where only those from 2 to 14 are set
-sum_of_bits : (q2 q3 q4 q5 q6 q7 q8 q9 q10 q11 q12 q13 q14 : ℕ)
-    (b1 b2 b3 b4 b5 b6 b7 b8 b9 b10 b11 b12 b13 b14 : ℕ) (set : ℕ)
-    → b1 ≡ 0 → set ≡ 4 * q2 → q2 ≡ 2 * q3 + b2 → q3 ≡ 2 * q4 + b3 → q4 ≡ 2 * q5 + b4 → q5 ≡ 2 * q6 + b5 → q6 ≡ 2 * q7 + b6
-    → q7 ≡ 2 * q8 + b7 → q8 ≡ 2 * q9 + b8 → q9 ≡ 2 * q10 + b9 → q10 ≡ 2 * q11 + b10 → q11 ≡ 2 * q12 + b11
-    → q12 ≡ 2 * q13 + b12 → q13 ≡ 2 * q14 + b13 → q14 ≡ b14
-    → 0 + b1 * 2 + b2 * 4 + b3 * 8 + b4 * 16 + b5 * 32 + b6 * 64 + b7 * 128 + b8 * 256 + b9 * 512 + b10 * 1024
-    + b11 * 2048 + b12 * 4096 + b13 * 8192 + b14 * 16384 ≡ set
-sum_of_bits q2 q3 q4 q5 q6 q7 q8 q9 q10 q11 q12 q13 q14 b1 b2 b3 b4 b5 b6 b7 b8 b9 b10 b11 b12 b13 b14 set e0 e1 e2 e3
-    e4 e5 e6 e7 e8 e9 e10 e11 e12 e13 e14 = omega arith
-
 -- sums of the same numbers are the same
 sum_same : {X : Type 0} (f g : X → ℕ) → ((x : X) → f x ≡ g x) → (from : ℕ) (xs : List X)
     → fold (λ a x. a + f x) from xs ≡ fold (λ a x. a + g x) from xs
@@ -45,17 +37,43 @@ sum_same f g same from [] = refl
 sum_same f g same from (x ∷ xs) =
     ap (λ (n : ℕ). fold (λ a y. a + f y) (from + n) xs) (same x) ∙ sum_same f g same (from + g x) xs
 
--- the bits of all rules' numbers make the set
-bits_of_rules : (set : ℕ) → set < 32768 → set % 4 ≡ 0
-    → fold (λ a (rule : Rule). a + bit set (rule_number rule) * 2 ^ rule_number rule) 0 all_rules ≡ set
+-- the rules have the numbers from this one on, one after the other
+abbrev are_from : ℕ → List Rule → Bool
+are_from n [] = true
+are_from n (rule ∷ more) = nat_eq (rule_number rule) n && are_from (n + 1) more
+
+-- what is left of a set without its lowest bits is one bit, and what is left without that
+one_bit_less : (set n sum : ℕ) → sum + set / 2 ^ n * 2 ^ n ≡ set
+    → (sum + bit set n * 2 ^ n) + set / 2 ^ (n + 1) * 2 ^ (n + 1) ≡ set
 unfolding bit
-bits_of_rules set small whole =
-    sum_of_bits (set / 4) (set / 8) (set / 16) (set / 32) (set / 64) (set / 128) (set / 256) (set / 512) (set / 1024)
-    (set / 2048) (set / 4096) (set / 8192) (set / 16384) (set / 2 % 2) (set / 4 % 2) (set / 8 % 2) (set / 16 % 2)
-    (set / 32 % 2) (set / 64 % 2) (set / 128 % 2) (set / 256 % 2) (set / 512 % 2) (set / 1024 % 2) (set / 2048 % 2)
-    (set / 4096 % 2) (set / 8192 % 2) (set / 16384 % 2) set (omega arith) (omega arith) (omega arith) (omega arith)
-    (omega arith) (omega arith) (omega arith) (omega arith) (omega arith) (omega arith) (omega arith) (omega arith)
-    (omega arith) (omega arith) (omega arith)
+one_bit_less set n sum so_far =
+    let twice : 2 ^ (n + 1) ≡ 2 ^ n * 2 = pow-add 2 n 1 in
+    let half : set / 2 ^ (n + 1) ≡ set / 2 ^ n / 2 =
+    ap (λ (p : ℕ). set / p) twice ∙ sym (div-div-eq-div-mul set (2 ^ n) 2) in
+    rw (half, twice) (parts (set / 2 ^ n) (set / 2 ^ n / 2) (set / 2 ^ n % 2) (omega arith) ∙ so_far)
+  where
+    parts : (whole half low : ℕ) → whole ≡ 2 * half + low
+        → (sum + low * 2 ^ n) + half * (2 ^ n * 2) ≡ sum + whole * 2 ^ n
+    parts whole half low are = rw are (omega arith)
+
+-- the bits of such rules' numbers make the set, where what they are added to has the others
+bits_from : (set n sum : ℕ) (some : List Rule) → are_from n some ≡ true → sum + set / 2 ^ n * 2 ^ n ≡ set
+    → set < 2 ^ (n + length some)
+    → fold (λ a (rule : Rule). a + bit set (rule_number rule) * 2 ^ rule_number rule) sum some ≡ set
+bits_from set n sum [] are so_far small =
+    let none : set / 2 ^ n ≡ 0 = div-eq_of_lt (subst (λ (m : ℕ). set < 2 ^ m) (omega arith) small) in
+    omega (arith, rw none at so_far)
+bits_from set n sum (rule ∷ more) are so_far small =
+    let parts = and_parts (nat_eq (rule_number rule) n) (are_from (n + 1) more) are in
+    let number : rule_number rule ≡ n = grind (arith, nat_tests, parts.0) in
+    let behind : n + length (rule ∷ more) ≡ n + 1 + length more = omega arith in
+    rw number (bits_from set (n + 1) (sum + bit set n * 2 ^ n) more parts.1 (one_bit_less set n sum so_far)
+    (rw behind at small))
+
+-- the bits of all rules' numbers make the set
+bits_of_rules : (set : ℕ) → set < 2 ^ (1 + length all_rules) → set % 4 ≡ 0
+    → fold (λ a (rule : Rule). a + bit set (rule_number rule) * 2 ^ rule_number rule) 0 all_rules ≡ set
+bits_of_rules set small whole = bits_from set 1 0 all_rules refl (omega (arith, whole)) small
 
 -- the rules of a set have the bits of that set
 pub set_of_rules : (set : ℕ) → MayBeOff set → off_set (rules_in set) ≡ set

@@ -8,7 +8,7 @@ use Rattle.query_core.specs.declared.options.RootDist.TheVariants.{One, Spread}
 use Rattle.dump_replay.specs.Lines.{version_line, capacity_line, root_line, off_line, print_line, catalog_line, query_line}
 use Rattle.dump_replay.specs.Lines.{all_lines, lines_text}
 use Rattle.command_line.specs.Numbers.{IsWithin}
-use Rattle.command_line.specs.Options.{MayBeOff}
+use Rattle.query_stage.specs.OffRules.{MayBeOff}
 use Rattle.dump_replay.specs.Dumps.{AreDumpOptions, AreFirst, IsDump, text_of}
 use Rattle.dump_replay.specs.declared.dump.DumpOptions.{DumpOptions}
 use Rattle.dump_replay.specs.declared.dump.Dump.{Dump}

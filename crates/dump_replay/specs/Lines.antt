@@ -6,8 +6,9 @@ use Rattle.query_core.specs.Sets.{bit}
 use Rattle.query_core.specs.declared.options.RootDist.{RootDist}
 use Rattle.xform_rules.specs.Rules.{all_rules, rule_number}
 use Rattle.xform_rules.specs.declared.rules.Rule.{Rule}
+use Rattle.query_stage.specs.OffRules.{MayBeOff}
 use Rattle.command_line.specs.Numbers.{IsWithin}
-use Rattle.command_line.specs.Options.{root_word, MayBeOff}
+use Rattle.command_line.specs.Options.{root_word}
 use Rattle.command_line.specs.Rules.{rules_word}
 
 -- ---- the bytes of lines, without the newline that ends each

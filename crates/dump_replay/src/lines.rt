@@ -2,7 +2,7 @@
 ghost use Rattle.std.specs.Prelude.{◌≡◌, ◌≢◌, ◌++◌, ℕ, Bool, List, [], Some, codes, IfOk, IfSome, MatchOption, IsUtf8};
 ghost use Rattle.std.specs.Bool.{Decides};
 ghost use Rattle.command_line.specs.Numbers.{IsWithin};
-ghost use Rattle.command_line.specs.Options.{MayBeOff};
+ghost use Rattle.query_stage.specs.OffRules.{MayBeOff};
 ghost use Rattle.dump_replay.specs.Lines.{BeginsWithLine, HasForm, Lacks, version as the_version};
 ghost use Rattle.dump_replay.specs.Lines.{capacity as the_capacity, root as the_root, off as the_off};
 ghost use Rattle.dump_replay.specs.Lines.{print as the_print, catalog as the_catalog, query as the_query};

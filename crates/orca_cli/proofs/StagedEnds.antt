@@ -6,6 +6,7 @@ use Rattle.std.proofs.Props.{props}
 use Rattle.std.proofs.lemmas.List.Elements.{All-head, All-tail}
 use mathlib.Core.HLevel.{is_prop→PathP}
 use Rattle.query_core.specs.declared.query.Query.{Query}
+use Rattle.query_stage.specs.OffRules.{MayBeOff}
 use Rattle.query_stage.specs.declared.stage.Stage.{Stage}
 use Rattle.request_props.specs.Numbered.{IsWithinLimits}
 use Rattle.plan_space.specs.Cost.{cost_of}
@@ -171,8 +172,7 @@ stage_same : (s t : Stage) → s.off ≡ t.off → s.threshold ≡ t.threshold �
 stage_same s t off threshold = λ i. record {
   off = off i;
   threshold = threshold i;
-  rules_known = is_prop→PathP (λ j. off j < 32768) (λ j. hlevel props) s.rules_known t.rules_known i;
-  expansion_on = is_prop→PathP (λ j. (off j) % 4 ≡ 0) (λ j. hlevel props) s.expansion_on t.expansion_on i;
+  may_be_off = is_prop→PathP (λ j. MayBeOff (off j)) (λ j. hlevel props) s.may_be_off t.may_be_off i;
 }
 
 stages_same : (some others : List Stage) → map stage_read some ≡ map stage_read others → some ≡ others

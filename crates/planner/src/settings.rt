@@ -5,6 +5,7 @@ ghost use Rattle.std.specs.Prelude.{◌↔◌, IsTrue};
 ghost use Rattle.planner.specs.Settings.{AreSettings};
 
 use query_core::{Options, RootDist};
+use xform_rules::Rule;
 
 /// What is chosen for a query.
 #[derive(Clone, Copy, Debug, PartialEq, Eq)]
@@ -33,11 +34,11 @@ impl Settings {
         }
     }
 
-    /// Whether the capacity is in its range, and only rules with the numbers 2 to 14 are off.
+    /// Whether the capacity is in its range, and only rules that can be off are off.
     pub fn keep_limits(self) -> bool
         ensures { IsTrue result ↔ AreSettings self }
     {
-        self.options.off < 1 << 15
+        self.options.off < 1 << (Rule::all().len() + 1)
             && self.options.off % 4 == 0
             && 1 <= self.capacity
             && self.capacity <= MOST_CAPACITY

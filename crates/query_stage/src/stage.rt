@@ -1,5 +1,7 @@
 //! A stage of a plan.
-ghost use Rattle.std.specs.Prelude.{◌≡◌, ◌<◌, ◌%◌, ◌↔◌, ℕ, Some, IsTrue};
+ghost use Rattle.std.specs.Prelude.{◌≡◌, ◌<◌, ◌↔◌, ℕ, Some, IsTrue};
+ghost use Rattle.std.proofs.Props.{props};
+ghost use Rattle.query_stage.specs.OffRules.{MayBeOff};
 
 /// A stage: which rules are off, and which cost is enough.
 #[derive(Clone, Copy, Debug, PartialEq, Eq)]
@@ -8,8 +10,7 @@ pub struct Stage {
     pub off: u32,
     /// No later stage runs where the least plan of this one costs less.
     pub threshold: Option<u64>,
-    pub ghost rules_known: { off < 32768 },
-    pub ghost expansion_on: { off % 4 ≡ 0 },
+    pub ghost may_be_off: { MayBeOff off } by { Prim.hlevel props },
 }
 
 impl Stage {

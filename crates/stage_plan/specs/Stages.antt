@@ -14,7 +14,7 @@ use Rattle.query_stage.specs.declared.stage.Stage.{Stage}
 abbrev pub query_in : Query → Stage → Query
 query_in q stage = record q {
   options = record (q.options) { off = stage.off };
-  options_valid = record { below = stage.rules_known; expansion_on = stage.expansion_on };
+  options_valid = record { below = stage.may_be_off.below; expansion_on = stage.may_be_off.expansion_on };
 }
 
 -- the plan is the least of the query in the stage

@@ -1,5 +1,6 @@
 -- A rule that the set has is added, and each other left out.
-use Rattle.std.proofs.Common.{◌≡◌, ℕ, ◌+◌, List, Bor, String, Global, get_or, sym, ap, ◌∙◌, arith, codes, string_bytes, subst}
+use Rattle.std.proofs.Common.{◌≡◌, ℕ, ◌+◌, List, Bor, String, Global, get_or, length, sym, ap, ◌∙◌, arith, codes, subst}
+use Rattle.std.proofs.Common.{string_bytes}
 use Rattle.std.proofs.lemmas.Bool.{false≢true}
 use Rattle.xform_rules.specs.Rules.{all_rules, rule_number}
 use Rattle.xform_rules.specs.declared.rules.Rule.{Rule}
@@ -38,5 +39,5 @@ loop-rule-preserved c =
 
 pub returns : goal.returns
 returns c =
-    let all : c.loop-rule.rule-index ≡ 14 = omega arith in
+    let all : c.loop-rule.rule-index ≡ length all_rules = omega arith in
     c.loop-rule.invariant.spelled ∙ ap (λ (n : ℕ). rules_line (rules_before c.args.off n)) all
