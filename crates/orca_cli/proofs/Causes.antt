@@ -1,9 +1,9 @@
 -- What follows from how a run ends: which causes its status has.
-use Rattle.std.proofs.Common.{◌≡◌, List, ℕ, Option, None, Some, refl, sym, ◌∙◌, subst, inl, inr}
+use Rattle.std.proofs.Common.{◌≡◌, ◌≢◌, List, ℕ, Option, None, Some, refl, sym, ◌∙◌, subst, inl, inr}
 use Rattle.orca_base.specs.Causes.{Rose}
-use Rattle.command_line.specs.Command.{PlanNames, ListNames, AnyCommand, check, batch}
+use Rattle.command_line.specs.Command.{AnyCommand}
 use Rattle.orca_cli.specs.Answers.{Note}
-use Rattle.orca_cli.specs.Causes.{ReadRose, HasNoFault, Completes, HasCauses, EndsHaveCauses}
+use Rattle.orca_cli.specs.Causes.{HasNoFault, Completes, HasCauses, EndsHaveCauses}
 use Rattle.orca_cli.specs.Prepared.{Reads, generated_in}
 use Rattle.orca_cli.specs.Run.{IsEnding, IsRun, Puts, Ends, whole, cut_short, nothing}
 use Rattle.orca_cli.specs.Sections.{Tells}
@@ -17,8 +17,7 @@ use Rattle.orca_cli.proofs.CheckedEnds.{OneText, accepted, turned_down as turned
 use Rattle.orca_cli.proofs.HeldEnds.{generated_there, stages_there, check_there, listed_there, unlisted_there}
 use Rattle.orca_cli.proofs.HeldEnds.{refused_query_there}
 use Rattle.orca_cli.proofs.StagedEnds.{staged_status, settled_stages}
-use Rattle.orca_cli.proofs.EndingStatuses.{of_search, ended_by, never_usage, never_write, read_rose}
-use Rattle.orca_cli.proofs.EndingStatuses.{list_of, plan_text_of}
+use Rattle.orca_cli.proofs.EndingStatuses.{of_search, TaskCause, ending_cause}
 
 -- ---- the status of the run
 
@@ -38,6 +37,24 @@ pub every : (named : Option AnyCommand) (shelf : Reads) (empty note : Note) (sin
 every named shelf empty note sink status ends P command is none memory each =
     given (IsEnding command shelf empty note) P sink status memory each none.writes
     (subst (λ n. Ends (IsRun n shelf empty note) sink status) is ends)
+
+-- what a run's status comes from where the words are a command, the sink didn't fail, and memory lasted
+pub told_cause : (named : Option AnyCommand) (shelf : Reads) (empty note : Note) (sink : Puts) (status told : Status)
+    → status ≡ told → told ≢ Usage → told ≢ WriteFault → told ≢ Memory
+    → Ends (IsRun named shelf empty note) sink status
+    → (command : AnyCommand) × (named ≡ Some command) × TaskCause command.task shelf told
+told_cause named shelf empty note sink status told is no_usage no_write no_memory ends = of_named named refl ends
+  where
+    of_named : (n : Option AnyCommand) → named ≡ n → Ends (IsRun n shelf empty note) sink status
+        → (command : AnyCommand) × (named ≡ Some command) × TaskCause command.task shelf told
+    of_named None same (whole text run taken) = absurd (no_usage (sym is ∙ run.0.0))
+    of_named (Some command) same (whole text ending taken) = (
+      command,
+      same,
+      subst (TaskCause command.task shelf) is (ending_cause shelf status text command empty note ending),
+    )
+    of_named n same (cut_short fault rose ended text ending taken) = absurd (no_write (sym is ∙ fault))
+    of_named n same (nothing memory kept) = absurd (no_memory (sym is ∙ memory))
 
 module _ (one : OneAnswer) (outcomes : OneText) (named : Option AnyCommand) (shelf : Reads) (empty note : Note)
     (sink : Puts) (status : Status) (ends : Ends (IsRun named shelf empty note) sink status) where
@@ -60,24 +77,9 @@ module _ (one : OneAnswer) (outcomes : OneText) (named : Option AnyCommand) (she
       of_named : (n : Option AnyCommand) → Ends (IsRun n shelf empty note) sink status → n ≡ None
       of_named None ends = refl
       of_named (Some command) (whole text ending taken) =
-          absurd (never_usage command.task shelf status (ended_by command shelf empty note status text ending) is)
+          absurd (subst (TaskCause command.task shelf) is (ending_cause shelf status text command empty note ending))
       of_named (Some command) (cut_short fault rose ended text ending taken) = cc
       of_named (Some command) (nothing memory kept) = cc
-
-  read_cause : status ≡ ReadFault
-      → (command : AnyCommand) × (named ≡ Some command) × ReadRose command.task shelf
-  read_cause is = of_named named refl ends
-    where
-      of_named : (n : Option AnyCommand) → named ≡ n → Ends (IsRun n shelf empty note) sink status
-          → (command : AnyCommand) × (named ≡ Some command) × ReadRose command.task shelf
-      of_named None same (whole text run taken) = let other : Usage ≡ ReadFault = sym run.0.0 ∙ is in cc
-      of_named (Some command) same (whole text ending taken) = (
-        command,
-        same,
-        read_rose command.task shelf status (ended_by command shelf empty note status text ending) is,
-      )
-      of_named n same (cut_short fault rose ended text ending taken) = cc
-      of_named n same (nothing memory kept) = cc
 
   write_cause : status ≡ WriteFault → Rose sink.before sink.after
   write_cause is = of_named named ends
@@ -85,43 +87,16 @@ module _ (one : OneAnswer) (outcomes : OneText) (named : Option AnyCommand) (she
       of_named : (n : Option AnyCommand) → Ends (IsRun n shelf empty note) sink status → Rose sink.before sink.after
       of_named None (whole text run taken) = let other : Usage ≡ WriteFault = sym run.0.0 ∙ is in cc
       of_named (Some command) (whole text ending taken) =
-          absurd (never_write command.task shelf status (ended_by command shelf empty note status text ending) is)
+          absurd (subst (TaskCause command.task shelf) is (ending_cause shelf status text command empty note ending))
       of_named n (cut_short fault rose ended text ending taken) = rose
       of_named n (nothing memory kept) = cc
-
-  list_cause_of : status ≡ BatchRefused → (command : AnyCommand) × (files : ListNames) × (named ≡ Some command)
-      × (command.task ≡ batch files)
-  list_cause_of is = of_named named refl ends
-    where
-      of_named : (n : Option AnyCommand) → named ≡ n → Ends (IsRun n shelf empty note) sink status
-          → (command : AnyCommand) × (files : ListNames) × (named ≡ Some command) × (command.task ≡ batch files)
-      of_named None same (whole text run taken) = let other : Usage ≡ BatchRefused = sym run.0.0 ∙ is in cc
-      of_named (Some command) same (whole text ending taken) =
-          let (files, task) = list_of command.task shelf status (ended_by command shelf empty note status text ending)
-          is
-          in (command, files, same, task)
-      of_named n same (cut_short fault rose ended text ending taken) = cc
-      of_named n same (nothing memory kept) = cc
-
-  plan_cause_of : status ≡ PlanRefused → (command : AnyCommand) × (files : PlanNames) × (named ≡ Some command)
-      × (command.task ≡ check files)
-  plan_cause_of is = of_named named refl ends
-    where
-      of_named : (n : Option AnyCommand) → named ≡ n → Ends (IsRun n shelf empty note) sink status
-          → (command : AnyCommand) × (files : PlanNames) × (named ≡ Some command) × (command.task ≡ check files)
-      of_named None same (whole text run taken) = let other : Usage ≡ PlanRefused = sym run.0.0 ∙ is in cc
-      of_named (Some command) same (whole text ending taken) =
-          let (files, task) = plan_text_of command.task shelf status
-          (ended_by command shelf empty note status text ending)
-          is in (command, files, same, task)
-      of_named n same (cut_short fault rose ended text ending taken) = cc
-      of_named n same (nothing memory kept) = cc
 
   causes : HasCauses named shelf sink status
   causes = record {
     completes = completed;
     usage = usage_cause;
-    read_fault = read_cause;
+    read_fault = λ is.
+        told_cause named shelf empty note sink status ReadFault is (λ u. cc) (λ w. cc) (λ m. cc) ends;
     write_fault = write_cause;
     overflows = λ command query is sure more none.
         where_no_fault (IsOneOf overflowed) command is none (inr (inl refl))
@@ -144,7 +119,10 @@ module _ (one : OneAnswer) (outcomes : OneText) (named : Option AnyCommand) (she
         where_no_fault (IsOneOf concluded) command is none (inr (inr (inl refl)))
         (λ s t ending. settled_stages one query command.settings.capacity asked.stages s t room
         (stages_there one command shelf empty note none.reads s t ending asked query task held));
-    plan_refused = plan_cause_of;
+    plan_refused = λ is.
+        let (command, same, (files, task)) =
+        told_cause named shelf empty note sink status PlanRefused is (λ u. cc) (λ w. cc) (λ m. cc) ends in
+        (command, files, same, task);
     accepts_plan = λ command files query plan_text cost is task held good none.
         where_no_fault (IsOneOf served) command is none (inr (inl refl))
         (λ s t ending. accepted outcomes query plan_text cost s t good
@@ -153,7 +131,10 @@ module _ (one : OneAnswer) (outcomes : OneText) (named : Option AnyCommand) (she
         where_no_fault (IsOneOf plan_turned_down) command is none (inr (inl refl))
         (λ s t ending. turned_down_plan outcomes query plan_text fault s t lasts has
         (check_there one command shelf empty note none.reads s t ending files query plan_text task held));
-    batch_refused = list_cause_of;
+    batch_refused = λ is.
+        let (command, same, (files, task)) =
+        told_cause named shelf empty note sink status BatchRefused is (λ u. cc) (λ w. cc) (λ m. cc) ends in
+        (command, files, same, task);
     lists = λ command files is task held none.
         where_no_fault (IsOneOf served) command is none (inr (inl refl))
         (λ s t ending. inl (listed_there one command shelf empty note none.reads s t ending files task held));

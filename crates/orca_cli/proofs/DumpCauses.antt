@@ -1,41 +1,27 @@
 -- What follows from how a dump or a replay ends: which causes its status has.
-use Rattle.std.proofs.Common.{◌≡◌, Option, None, Some, refl, sym, ◌∙◌, inl, inr}
+use Rattle.std.proofs.Common.{Option, None, refl, inl, inr}
 use Rattle.command_line.specs.Command.{AnyCommand}
 use Rattle.orca_cli.specs.Answers.{Note}
-use Rattle.orca_cli.specs.DumpCauses.{IsOfDumps, HasDumpCauses, EndsHaveDumpCauses}
+use Rattle.orca_cli.specs.DumpCauses.{HasDumpCauses, EndsHaveDumpCauses}
 use Rattle.orca_cli.specs.Dumps.{dump_options, replay_settings}
 use Rattle.orca_cli.specs.Prepared.{Reads}
-use Rattle.orca_cli.specs.Run.{IsRun, Puts, Ends, whole, cut_short, nothing}
+use Rattle.orca_cli.specs.Run.{IsRun, Puts, Ends}
 use Rattle.orca_cli.specs.Sections.{Tells}
 use Rattle.orca_cli.specs.Status.{IsOneOf, concluded, overflowed, turned_down, served, undumped}
 use Rattle.orca_cli.specs.declared.status.Status.{Status}
-use Rattle.orca_cli.specs.declared.status.Status.TheVariants.{Usage, DumpRefused}
+use Rattle.orca_cli.specs.declared.status.Status.TheVariants.{DumpRefused}
 use Rattle.orca_cli.proofs.OneAnswer.{OneAnswer, settled_search, overflow_search}
-use Rattle.orca_cli.proofs.Causes.{every}
+use Rattle.orca_cli.proofs.Causes.{every, told_cause}
 use Rattle.orca_cli.proofs.DumpAnswers.{OneDump}
 use Rattle.orca_cli.proofs.DumpStatuses.{dumped_end, long_end, replayed_search, refused_replay, refused_dump}
-use Rattle.orca_cli.proofs.EndingStatuses.{ended_by, dumps_of}
 use Rattle.orca_cli.proofs.HeldEnds.{dump_there, replay_there}
 
 module _ (one : OneAnswer) (dumps_one : OneDump) (named : Option AnyCommand) (shelf : Reads) (empty note : Note)
     (sink : Puts) (status : Status) (ends : Ends (IsRun named shelf empty note) sink status) where
-  refused_by : status ≡ DumpRefused → (command : AnyCommand) × (named ≡ Some command) × IsOfDumps command.task
-  refused_by is = of_named named refl ends
-    where
-      of_named : (n : Option AnyCommand) → named ≡ n → Ends (IsRun n shelf empty note) sink status
-          → (command : AnyCommand) × (named ≡ Some command) × IsOfDumps command.task
-      of_named None same (whole text run taken) = let other : Usage ≡ DumpRefused = sym run.0.0 ∙ is in cc
-      of_named (Some command) same (whole text ending taken) = (
-        command,
-        same,
-        dumps_of command.task shelf status (ended_by command shelf empty note status text ending) is,
-      )
-      of_named n same (cut_short fault rose ended text ending taken) = cc
-      of_named n same (nothing memory kept) = cc
-
   causes : HasDumpCauses named shelf sink status
   causes = record {
-    refused = refused_by;
+    refused = λ is.
+        told_cause named shelf empty note sink status DumpRefused is (λ u. cc) (λ w. cc) (λ m. cc) ends;
     dumps = λ command files select catalog is task held within none.
         every named shelf empty note sink status ends (IsOneOf served) command is none (inr (inl refl))
         (λ s t ending. dumped_end select catalog held.text (dump_options command.settings) s t within
