@@ -1,5 +1,5 @@
 -- What a closed board gives, of an engine's scheduler and its last worker.
-use Rattle.std.proofs.Common.{◌<◌, ap, subst}
+use Rattle.std.proofs.Common.{◌<◌, ap, subst, ◌∙◌}
 use Rattle.board_rule.specs.Words.{cell_word}
 use Rattle.board_rule.specs.Looks.{Looked}
 use Rattle.board_rule.specs.declared.hands.Hands.{Hands}

@@ -8,9 +8,9 @@ pub returns-clause-ends : goal.returns-clause-ends
 returns-clause-ends c =
     run_ends (record { each = c.finishers_are_known.ensures.each; below = c.finishers_are_known.ensures.below })
     (query_of c.args.engine) c.args.engine.cells c.args.engine.capacity c.args.n
-    c.close_board.result.0 (Some (c.args.engine.capacity, c.args.n, c.close_board.result.1)) c.close_board.ensures
+    c.close_board-outcome.result.0 (Some (c.args.engine.capacity, c.args.n, c.close_board-outcome.result.1)) c.close_board-outcome.ensures
 
 pub returns-clause-noted : goal.returns-clause-noted
 returns-clause-noted c =
-    is_noted (query_of c.args.engine) c.args.engine.cells c.args.engine.capacity c.args.n c.close_board.result.0
-    (Some (c.args.engine.capacity, c.args.n, c.close_board.result.1)) c.close_board.ensures
+    is_noted (query_of c.args.engine) c.args.engine.cells c.args.engine.capacity c.args.n c.close_board-outcome.result.0
+    (Some (c.args.engine.capacity, c.args.n, c.close_board-outcome.result.1)) c.close_board-outcome.ensures
