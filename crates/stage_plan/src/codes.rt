@@ -8,7 +8,8 @@ use std::alloc::{AllocError, Global};
 
 /// The numbers of a plan's nodes, each before those below it.
 pub fn code_of(alloc: Global, plan: &Plan) -> Result<Vec<u64>, AllocError>
-    ensures { IfOk result (λ code. (tree : Tree) → Spells plan.now tree → code.items ≡ the_code_of tree) }
+    ensures { IfOk result (λ code. (tree : Tree) → Spells plan.now tree →
+        code.items ≡ the_code_of tree) }
 {
     let mut code = Vec::new(alloc);
     push_code(plan, &mut code)?;
