@@ -1,5 +1,5 @@
 //! What the search of one query gave, in lists.
-ghost use Rattle.std.specs.Prelude.{IfOk};
+ghost use Rattle.std.specs.Prelude.{ℕ, IfOk};
 ghost use Rattle.query_core.specs.declared.query.Query.{Query};
 ghost use Rattle.job_engine.specs.Runs.{RunEnds};
 ghost use Rattle.batch_search.specs.Batches.{EndsListed};
@@ -14,14 +14,12 @@ pub enum ListedOutcome {
     /// All goals are finished.
     Done(Lists),
     /// The query has more entries than the capacity.
-    Full {
-        capacity: u32,
-    },
+    Full { capacity: u32 },
 }
 
 // The lists of what a search by one worker gave.
 pub(crate) fn listed(alloc: Global, outcome: Outcome) -> Result<ListedOutcome, AllocError>
-    requires { (query : Query) (capacity : ℕ) × RunEnds query capacity 1 outcome }
+    requires { (query : Query) × (capacity : ℕ) × RunEnds query capacity 1 outcome }
     ensures { IfOk result (λ listed. (query : Query) (capacity : ℕ) →
         RunEnds query capacity 1 outcome → EndsListed query capacity listed) }
 {
