@@ -2,3 +2,4 @@ pub mod Adding
 pub mod Steps
 pub mod Sides
 pub mod Told
+pub mod Rooms
