@@ -102,9 +102,9 @@ module _ (shelf : Reads) (status : Status) (text : List ℕ) where
   -- bytes that are no dump, or one that asks for no query
   replay_cause : (file bytes : List ℕ) → IsReplayRefused bytes status text → TaskCause (replay file) shelf status
   replay_cause file bytes (no_dump is) = caused (replay file) DumpRefused is.refused (reads_one file refl)
-  replay_cause file bytes (no_query dump says (over_none none)) =
+  replay_cause file bytes (no_query of_bytes says (over_none none)) =
       caused (replay file) CatalogRefused none.refused tt
-  replay_cause file bytes (no_query dump says (over_catalog catalog read why)) =
+  replay_cause file bytes (no_query of_bytes says (over_catalog catalog read why)) =
       caused (replay file) QueryRefused why.refused tt
 
   stop_cause : (task : AnyTask) (settings : Settings) → TaskStops task settings shelf status text

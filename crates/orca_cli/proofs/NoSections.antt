@@ -20,9 +20,5 @@ module _ (settings : Settings) (query : Query) (front : List ℕ) where
   goes_nowhere memo trace by_worker = (
     front,
     not_behind sections.Memo memo,
-    front,
-    not_behind sections.Trace trace,
-    front,
-    not_behind sections.ByWorker by_worker,
-    refl,
+    (front, not_behind sections.Trace trace, (front, not_behind sections.ByWorker by_worker, refl)),
   )
