@@ -94,10 +94,12 @@ fn is_whole(alloc: Global, outcome: &Outcome) -> Result<bool, AllocError> {
     match outcome {
         Outcome::Done(searched) => {
             let lists = searched.lists(alloc)?;
-            Ok(lists.members.len() == 2
-                && lists.goals.len() == 8
-                && lists.goals.as_slice().contains(&SCAN_ROOT)
-                && lists.who.as_slice() == [0; 8].as_slice())
+            Ok(
+                lists.members.len() == 2
+                    && lists.goals.len() == 8
+                    && lists.goals.as_slice().contains(&SCAN_ROOT)
+                    && lists.who.as_slice() == [0; 8].as_slice(),
+            )
         }
         _ => Ok(false),
     }
