@@ -1,39 +1,21 @@
 -- A board whose last seat has all parts.
-use Rattle.std.proofs.Common.{◌≡◌, ◌≢◌, ℕ, zero, suc, ◌+◌, ◌^◌, ◌<◌, ◌≤◌, List, [], ◌∷◌, cond, eqb, ne_eqb, false}
-use Rattle.std.proofs.Common.{not, IsTrue, sym, refl, ap, subst, ◌∙◌, inl, inr, ⊎_elim, arith}
+use Rattle.std.proofs.Common.{◌≡◌, ℕ, ◌+◌, ◌^◌, ◌<◌, ◌≤◌, List, [], ◌∷◌, cond, eqb, ne_eqb, false}
+use Rattle.std.proofs.Common.{not, IsTrue, refl, ap, subst, inl, inr, ⊎_elim, arith}
 use Rattle.std.proofs.lemmas.Bool.{cases_eq}
-use mathlib.Core.Option.{some, some-injective, some-ne-none}
+use mathlib.Core.Option.{some}
 use lib.ListN.{get_elem?}
 use Rattle.board_rule.specs.Meaning.{Meaning}
 use Rattle.board_rule.specs.Records.{Ended}
 use Rattle.board_rule.specs.Words.{mem}
-use Rattle.board_rule.specs.Seats.{Among, times, total, spent}
+use Rattle.board_rule.specs.Seats.{Among, times}
 use Rattle.board_rule.specs.Soundness.{HoldsGoal, IsRecorded, IsSound, ended}
 use Rattle.board_rule.specs.declared.hands.Hands.{Hands}
-use Rattle.board_rule.proofs.Lists.{among_counts, each_at, terms_le}
-use Rattle.board_rule.proofs.WakeUps.{no_wake_up_lost, registered_not_ready}
+use Rattle.board_rule.proofs.Lists.{among_counts, each_at}
+use Rattle.board_rule.proofs.WakeUps.{no_wake_up_lost, only_seat, registered_not_ready}
 use Rattle.goal_board.specs.Seats.{IsFree}
 use Rattle.goal_board.specs.Closed.{HasWorkers, IsReadyAt}
 use Rattle.goal_board.specs.Closing.{words_of, is_full, ClosesWith}
 use Rattle.goal_board.specs.declared.closing.ClosedBoard.{ClosedBoard}
-
-module _ {A : Type 0} (f : A → ℕ) where
-  none_at_all : (l : List A) → ((k : ℕ) (u : A) → get_elem? l k ≡ some u → f u ≡ 0) → total f l ≡ 0
-  none_at_all [] zeros = refl
-  none_at_all (x ∷ xs) zeros = omega (arith, zeros 0 x refl, none_at_all xs (λ k u e. zeros (suc k) u e))
-
-  -- a sum of which only one term is not 0
-  one_term : (l : List A) (id : ℕ) (v : A) → get_elem? l id ≡ some v
-      → ((k : ℕ) (u : A) → k ≢ id → get_elem? l k ≡ some u → f u ≡ 0) → total f l ≡ f v
-  one_term [] id v mine zeros = absurd (some-ne-none v (sym mine))
-  one_term (x ∷ xs) zero v mine zeros = omega
-      (arith, ap f (some-injective x v mine), none_at_all xs (λ k u e. zeros (suc k) u (λ d. omega arith) e))
-  one_term (x ∷ xs) (suc id) v mine zeros =
-      omega (
-        arith,
-        zeros 0 x (λ d. omega arith) refl,
-        one_term xs id v mine (λ k u apart e. zeros (suc k) u (λ d. apart (omega arith)) e),
-      )
 
 -- a place that stands in the list is that of one of it
 counted_among : {A : Type 0} → (place_of : A → ℕ) (p : ℕ) (l : List A) → 1 ≤ times place_of p l → (a : A) × Among l a
@@ -50,20 +32,6 @@ counted_among place_of p (x ∷ xs) some_one =
 module _ {R : Type 0} (meaning : Meaning) (rules : R) (capacity : ℕ) (words : List ℕ) (views : List (Hands R))
     (sound : IsSound meaning rules capacity words views)
     (id : ℕ) (v : Hands R) (mine : get_elem? views id ≡ some v) (all : v.parts ≡ 64) where
-  -- every other seat is spent
-  others_spent : (k : ℕ) (u : Hands R) → k ≢ id → get_elem? views k ≡ some u → u ≡ spent
-  others_spent k u apart there = ⊎_elim (λ e. e)
-      (λ t. absurd (omega (
-        arith,
-        t.0,
-        terms_le (λ (h : Hands R). h.parts) views id k v u apart mine there,
-        sound.by_kinds.parts,
-      )))
-      (sound.by_kinds.hands k u there).awake
-
-  last_sum : (f : Hands R → ℕ) → f spent ≡ 0 → total f views ≡ f v
-  last_sum f none = one_term f views id v mine (λ k u apart there. ap f (others_spent k u apart there) ∙ none)
-
   -- what is finished was finished by the seat, or by one that it took in
   pub finished_by : (p : ℕ) → p < capacity → 2 ^ 63 ≤ (mem words).head p
       → (e : Ended) × Among v.done e × (e.place ≡ p)
@@ -72,7 +40,11 @@ module _ {R : Type 0} (meaning : Meaning) (rules : R) (capacity : ℕ) (words : 
       let some_one : 1 ≤ times (λ (e : Ended). e.place) p v.done =
       let was = sound.by_kinds.rights p near in
       ⊎_elim (λ none_ended. let is_open = was.is_open none_ended in absurd (omega arith))
-      (λ some_end. omega (arith, last_sum (λ (h : Hands R). times (λ (e : Ended). e.place) p h.done) refl))
+      (λ some_end. omega (
+        arith,
+        only_seat meaning rules capacity (mem words) views id v sound.by_kinds mine all
+            (λ (h : Hands R). times (λ (e : Ended). e.place) p h.done) refl,
+      ))
       (cases_eq (ended views p) 0) in
       let t = counted_among (λ (e : Ended). e.place) p v.done some_one in (
         t.0,

@@ -36,8 +36,8 @@ impl<R: GoalRules> Board<R> {
     ghost use Rattle.goal_board.specs.Seats.{IsSeatOf, hands};
     ghost use Rattle.board_rule.specs.Seats.{opening_hands};
 
-    /// An empty board of `capacity` cells, and the first seat. It takes the board's memory. Of the other calls only
-    /// `close` takes any, beside the hints that `finish` is lent.
+    /// An empty board of `capacity` cells, and the first seat. It takes the board's memory. Of the calls on seats none
+    /// takes any, but for what the hints lent to `finish` take.
     pub fn start(alloc: Global, rules: R, capacity: u32) -> Result<(Board<R>, Seat<R>), AllocError>
     where
         R: Drop,

@@ -31,8 +31,8 @@ impl Drop for ClosedBoard {
 
 impl ClosedBoard {
     ghost use Rattle.goal_board.specs.Closed.{ReadsReady, IsFirstReady, answer_at as the_answer_at};
-    ghost use Rattle.goal_board.specs.Closing.{words_of, mem_of, cells_of, finished_of, is_full as the_is_full};
-    ghost use Rattle.goal_board.specs.Closing.{IsFinishedAt, HasFinished, HasAnswer};
+    ghost use Rattle.goal_board.specs.Closing.{words_of, mem_of, cells_of, finished_of};
+    ghost use Rattle.goal_board.specs.Closing.{is_full as the_is_full, IsFinishedAt, HasFinished, HasAnswer};
 
     /// The number of cells.
     pub fn capacity(&self) -> u32
@@ -142,8 +142,9 @@ impl ClosedBoard {
     // Adds the goal at a place to the finished ones, where its head is closed.
     fn push_finished(&self, finished: &mut Vec<Finished>, place: u32) -> Result<(), AllocError>
         requires { place < self.now.capacity }
-        ensures { OnOk result (finished.new.items
-            ≡ with_closed ((mem_of self.now).head place) finished.old.items (finished_at (mem_of self.now) place)) }
+        ensures { OnOk result (finished.new.items ≡
+            with_closed ((mem_of self.now).head place) finished.old.items
+            (finished_at (mem_of self.now) place)) }
     {
         let head = self.head(place);
         push_closed(

@@ -10,12 +10,11 @@ use crate::scheduler::Scheduler;
 use crate::sought::{Sought, Standing};
 use crate::worker::Worker;
 use goal_board::{GoalRules, Right};
+use std::thread;
 
-/// How many places the first piece of a scan has, and the most that a later one has. Between two pieces a worker looks
-/// at the root goal, at the full word, and at what other workers were told of.
-const FIRST_PIECE: u32 = 64;
-
-const LONGEST_PIECE: u32 = 512;
+/// How many places a piece of a scan has. Behind each piece a worker looks at the root goal, at the full word, and at
+/// what other workers were told of. Then it lets other threads go on: most goals are made ready by them, and hinted.
+const PIECE: u32 = 16;
 
 impl<R: GoalRules, J: GoalTurns<R>> Scheduler<R, J> {
     // Looks at the root goal, and then at the full word.
@@ -128,7 +127,7 @@ impl<R: GoalRules, J: GoalTurns<R>> Scheduler<R, J> {
         }
     }
 
-    // Scans these places, piece by piece. The first pieces are short: often another worker is told of a goal soon.
+    // Scans these places, piece by piece.
     fn scan(&self, worker: &mut Worker<R>, from: u32, to: u32) -> Sought
         requires worker { IsWorkerOf R.meaning self.now.board self.now.root self.now.goal worker.old }
         requires near { to ≤ self.now.board.setup.capacity }
@@ -139,11 +138,12 @@ impl<R: GoalRules, J: GoalTurns<R>> Scheduler<R, J> {
     {
         let mut at = from;
         while at < to {
-            let end = piece_end(from, at, to);
+            let end = piece_end(at, to);
             match self.scan_piece(worker, at, end) {
                 Sought::Busy => at = end,
                 sought => return sought,
             }
+            thread::yield_now();
         }
         Sought::Busy
     }
@@ -179,11 +179,10 @@ impl<R: GoalRules, J: GoalTurns<R>> Scheduler<R, J> {
     }
 }
 
-// Where the piece ends that begins here: it has as many places as were scanned before it, within the bounds.
-fn piece_end(from: u32, at: u32, to: u32) -> u32
+// Where the piece ends that begins here.
+fn piece_end(at: u32, to: u32) -> u32
     requires { at < to }
     ensures { (at < result) × (result ≤ to) }
 {
-    let length = at.saturating_sub(from).max(FIRST_PIECE).min(LONGEST_PIECE);
-    if to - at > length { at + length } else { to }
+    if to - at > PIECE { at + PIECE } else { to }
 }

@@ -122,7 +122,8 @@ impl<R: GoalRules, J: GoalTurns<R>> Scheduler<R, J> {
         J: Drop,
         requires worker { IsFreeWorkerOf R.meaning self.board self.root self.goal worker }
         requires parts { (hands worker.seat).parts ≡ 64 }
-        ensures { ClosesWith R.meaning self.board.setup.rules self.board.setup.capacity (hands worker.seat) result }
+        ensures { ClosesWith R.meaning self.board.setup.rules self.board.setup.capacity
+            (hands worker.seat) result }
     {
         let Scheduler {
             board,

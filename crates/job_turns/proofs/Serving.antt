@@ -13,7 +13,7 @@ use Rattle.xform_rules.specs.Closure.{IsMember}
 use Rattle.request_props.specs.Candidates.{with_word, ArePhysicalOf, IsPhysicalOf}
 use Rattle.request_props.specs.Fitting.{Fits}
 use Rattle.request_props.specs.Numbered.{IsProps}
-use Rattle.request_props.specs.declared.physical.PhysicalCandidate.{PhysicalCandidate}
+use Rattle.request_props.specs.declared.tables.physical.PhysicalCandidate.{PhysicalCandidate}
 use Rattle.request_props.specs.declared.props.Props.{Props}
 use Rattle.request_props.specs.declared.request.Request.{Request}
 use Rattle.plan_space.specs.declared.nodes.NodeKind.TheVariants as nodes

@@ -1,6 +1,6 @@
 -- What the work of a goal has come to, over the query.
-use Rattle.std.specs.Prelude.{◌≡◌, ◌⊎◌, ℕ, Bool, true, false, Option, Some}
-use Rattle.query_core.specs.Expressions.{origin_of, word_of}
+use Rattle.std.specs.Prelude.{◌≡◌, ◌⊎◌, ◌↔◌, ℕ, Bool, true, false, Option, Some}
+use Rattle.query_core.specs.Expressions.{children_of, origin_of, word_of, IsChild, IsPacked}
 use Rattle.query_core.specs.declared.query.Query.{Query}
 use Rattle.query_core.specs.declared.expressions.ExprParts.{ExprParts}
 use Rattle.query_core.specs.declared.words.KeyParts.{KeyParts}
@@ -82,3 +82,11 @@ IsOneOfGroups groups group = (groups.0 ≡ Some group) ⊎ (groups.1 ≡ Some gr
 -- the origin of the group, if there is one
 abbrev pub IsOriginOf : Query → Option KeyParts → ExprParts → Type 0
 IsOriginOf q found e = (group : KeyParts) × (found ≡ Some group) × (e ≡ origin_of q group)
+
+-- which has a word
+abbrev pub HasPackedOrigin : Query → Option KeyParts → Type 0
+HasPackedOrigin q found = (group : KeyParts) → found ≡ Some group → IsPacked (origin_of q group)
+
+-- they are the groups that the expression stands on
+abbrev pub AreGroupsBelow : ExprParts → Option KeyParts × Option KeyParts → Type 0
+AreGroupsBelow e groups = (group : KeyParts) → IsOneOfGroups groups group ↔ IsChild (children_of e.operator) group

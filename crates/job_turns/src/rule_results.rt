@@ -3,12 +3,12 @@
 
 ghost use Rattle.std.specs.Prelude.{◌≡◌, ◌↔◌, Some, IfSome};
 ghost use Rattle.query_core.specs.Keys.{IsGroup};
-ghost use Rattle.query_core.specs.Expressions.{children_of, origin_of, IsCandidate, IsChild, IsPacked};
+ghost use Rattle.query_core.specs.Expressions.{IsCandidate, IsPacked};
 ghost use Rattle.query_core.specs.declared.words.KeyParts.{KeyParts as AnyKeyParts};
 ghost use Rattle.goal_space.specs.Asked.{IsBroughtBy};
 ghost use Rattle.goal_space.specs.declared.goals.GoalKind.TheVariants.{Xf};
 ghost use Rattle.job_turns.specs.Searches.{HasJob, IsAtWork, StaysAtWork};
-ghost use Rattle.job_turns.specs.Works.{IsOneOfGroups, IsOriginOf};
+ghost use Rattle.job_turns.specs.Works.{AreGroupsBelow, HasPackedOrigin, IsOriginOf};
 ghost use Rattle.job_turns.specs.Results.{IsFromRule, IsFromRuleAt, IsFromBound, IsLeftOf};
 ghost use Rattle.job_turns.specs.Seats.{IsTurnOf, AsksForMember, AsksForAll, Puts, ShowsLogical, TurnWorks};
 
@@ -69,7 +69,7 @@ fn put_origin<'q>(
     group: Option<KeyParts>,
 ) -> bool
     requires has_job { HasJob search.now seat.old job.now }
-    requires packed { (key : AnyKeyParts) → group ≡ Some key → IsPacked (origin_of search.now.query.now key) }
+    requires packed { HasPackedOrigin search.now.query.now group }
     requires asked { AsksForAll search.now job.now (IsOriginOf search.now.query.now group) }
     ensures has_job { HasJob search.now seat.new job.now }
     ensures puts { Puts search.now seat.old job.now (IsOriginOf search.now.query.now group) result seat.new }
@@ -101,7 +101,7 @@ fn put_member<'q>(
 
 // The groups that an expression stands on.
 fn groups_below(e: ExprParts) -> (Option<KeyParts>, Option<KeyParts>)
-    ensures { (group : AnyKeyParts) → IsOneOfGroups result group ↔ IsChild (children_of e.operator) group }
+    ensures { AreGroupsBelow e result }
 {
     match e.children() {
         Children::Zero => (None, None),

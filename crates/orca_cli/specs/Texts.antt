@@ -16,7 +16,16 @@ use Rattle.text_check.specs.declared.text_fault.TextFault.{TextFault}
 use Rattle.text_check.specs.declared.text_fault.TextFault.TheVariants as plans
 
 abbrev pub usage_line : List ℕ
-usage_line = codes "usage: orca plan CATALOG QUERY [--workers N] [--capacity N] [--root one|spread] [--off RULE+RULE] [--memo] [--trace] [--by-worker] | orca gen NUMBER TABLES SHAPE [--workers N] [--capacity N] | orca stages CATALOG QUERY STAGES [--workers N] [--capacity N] [--root one|spread] | orca check CATALOG QUERY PLAN [--root one|spread] [--off RULE+RULE] | orca dump CATALOG QUERY [--capacity N] [--root one|spread] [--off RULE+RULE] [--memo] [--trace] | orca replay DUMP [--workers N] | orca batch CATALOG LIST [--workers N] [--capacity N] [--root one|spread] [--off RULE+RULE] [--memo] [--trace]\n"
+usage_line = codes "usage: orca plan CATALOG QUERY [--workers N] [--capacity N] [--root one|spread]"
+    ++ codes " [--off RULE+RULE] [--memo] [--trace] [--by-worker]"
+    ++ codes " | orca gen NUMBER TABLES SHAPE [--workers N] [--capacity N]"
+    ++ codes " | orca stages CATALOG QUERY STAGES [--workers N] [--capacity N] [--root one|spread]"
+    ++ codes " | orca check CATALOG QUERY PLAN [--root one|spread] [--off RULE+RULE]"
+    ++ codes " | orca dump CATALOG QUERY [--capacity N] [--root one|spread] [--off RULE+RULE] [--memo]"
+    ++ codes " [--trace]"
+    ++ codes " | orca replay DUMP [--workers N]"
+    ++ codes " | orca batch CATALOG LIST [--workers N] [--capacity N] [--root one|spread]"
+    ++ codes " [--off RULE+RULE] [--memo] [--trace]\n"
 
 -- the line that names a file that couldn't be read
 abbrev pub read_fault : List ℕ → List ℕ

@@ -26,8 +26,18 @@ use orca_io::Shelf;
 use query_core::Options;
 use std::alloc::{AllocError, Global};
 
-pub const USAGE: &str =
-    "usage: orca plan CATALOG QUERY [--workers N] [--capacity N] [--root one|spread] [--off RULE+RULE] [--memo] [--trace] [--by-worker] | orca gen NUMBER TABLES SHAPE [--workers N] [--capacity N] | orca stages CATALOG QUERY STAGES [--workers N] [--capacity N] [--root one|spread] | orca check CATALOG QUERY PLAN [--root one|spread] [--off RULE+RULE] | orca dump CATALOG QUERY [--capacity N] [--root one|spread] [--off RULE+RULE] [--memo] [--trace] | orca replay DUMP [--workers N] | orca batch CATALOG LIST [--workers N] [--capacity N] [--root one|spread] [--off RULE+RULE] [--memo] [--trace]\n";
+pub const USAGE: &str = concat!(
+    "usage: orca plan CATALOG QUERY [--workers N] [--capacity N] [--root one|spread]",
+    " [--off RULE+RULE] [--memo] [--trace] [--by-worker]",
+    " | orca gen NUMBER TABLES SHAPE [--workers N] [--capacity N]",
+    " | orca stages CATALOG QUERY STAGES [--workers N] [--capacity N] [--root one|spread]",
+    " | orca check CATALOG QUERY PLAN [--root one|spread] [--off RULE+RULE]",
+    " | orca dump CATALOG QUERY [--capacity N] [--root one|spread] [--off RULE+RULE] [--memo]",
+    " [--trace]",
+    " | orca replay DUMP [--workers N]",
+    " | orca batch CATALOG LIST [--workers N] [--capacity N] [--root one|spread]",
+    " [--off RULE+RULE] [--memo] [--trace]\n",
+);
 
 /// The command that the words are, and the work for which it asks; or how the run ends.
 pub fn prepared<'w, S: Shelf>(

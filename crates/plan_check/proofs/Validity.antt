@@ -15,9 +15,9 @@ use Rattle.plan_space.specs.declared.seen.Kid.{Kid}
 use Rattle.plan_space.specs.Valid.{OverOne, FitsBy, NodeFits, IsValid, EnforcerFits}
 use Rattle.plan_space.specs.Choices.{groups_of}
 use Rattle.plan_space.specs.Laws.{AreOf}
-use Rattle.plan_tree.specs.Seen.{root_node, kids_of}
+use Rattle.plan_tree.specs.Seen.{root_node}
 use Rattle.plan_check.specs.Preorder.{plans_in}
-use Rattle.plan_check.specs.Kids.{IsOne, HasKids, RootHasKids, RootFits}
+use Rattle.plan_check.specs.Kids.{IsOne, HasKids, RootHasKids, RootFits, kids_of}
 use Rattle.plan_check.proofs.Lists.{all_left, all_right}
 
 -- a tree is valid where each root in it may stand over its kids

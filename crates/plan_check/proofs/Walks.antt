@@ -13,14 +13,14 @@ use Rattle.plan_space.specs.Valid.{NodeFits}
 use Rattle.plan_space.specs.declared.nodes.NodeKind.{NodeKind}
 use Rattle.plan_space.specs.declared.seen.Kid.{Kid}
 use Rattle.plan_tree.specs.Nodes.{IsNode}
-use Rattle.plan_tree.specs.Seen.{kids_seen, kids_of, root_node, HaveGroups}
+use Rattle.plan_tree.specs.Seen.{kids_seen, root_node, HaveGroups}
 use Rattle.plan_tree.specs.Spells.{Spells}
 use Rattle.plan_tree.specs.declared.node.Node.{Node}
 use Rattle.plan_tree.specs.declared.plan.Plan.{Plan}
 use Rattle.plan_tree.specs.declared.plan.Plan.TheVariants.{Leaf, Over', Two'}
 use Rattle.plan_tree.specs.declared.seen.Kids.{Kids}
 use Rattle.plan_tree.specs.declared.seen.Kids.TheVariants as below
-use Rattle.plan_check.specs.Kids.{HasKids, RootHasKids, RootFits}
+use Rattle.plan_check.specs.Kids.{HasKids, RootHasKids, RootFits, kids_of}
 use Rattle.plan_check.specs.Nodes.{IsKindOf, IsNodeOf}
 use Rattle.plan_check.specs.Passes.{IsFirst, IsLast, both_of, AreNodes, ArePlans, IsKindWalk, IsNodeWalk, AreKnown}
 use Rattle.plan_check.specs.Passes.{IsTreeWalk, IsWalk}

@@ -14,7 +14,7 @@ use crate::needs::node_fits;
 use crate::nodes::known_kind;
 use crate::places::own_place;
 use plan_space::{Enforcer, Kid, NodeKind};
-use plan_tree::{Kids, Node, Plan, cost_above_any, nodes_are_one, seen_above};
+use plan_tree::{Kids, Node, Plan, cost_above, nodes_are_one, seen_above};
 use query_core::Query;
 use request_props::Props;
 
@@ -101,7 +101,7 @@ fn kind_walk(query: &Query, props: &Props, kind: NodeKind, below: Kids) -> Walke
         kid: seen_above(query, props, kind, below),
         findings: Findings {
             nodes: 1,
-            cost: cost_above_any(query, props, kind, below),
+            cost: cost_above(query, props, kind, below),
             unknown: None,
             wrong: own_place(has_kids(kind, below)),
             unfit: own_place(node_fits(query, props, kind, below)),

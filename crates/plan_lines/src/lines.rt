@@ -11,7 +11,7 @@ ghost use Rattle.plan_lines.specs.Lines.{AddsLine, AddsLines, IsKindLine, IsNode
 
 use crate::nodes::node_text;
 use plan_space::{Enforcer, Kid, NodeKind};
-use plan_tree::{Kids, Node, Plan, cost_above_any, rows_above, seen_above};
+use plan_tree::{Kids, Node, Plan, cost_above, rows_above, seen_above};
 use query_core::Query;
 use request_props::Props;
 use std::alloc::{AllocError, Global};
@@ -120,7 +120,7 @@ fn kind_line(
 {
     let name = node_text(alloc, query, props, kind)?;
     let rows = rows_above(query, props, kind, below);
-    let cost = cost_above_any(query, props, kind, below);
+    let cost = cost_above(query, props, kind, below);
     Ok(numbered(alloc, indent, &name, rows, cost)?)
 }
 

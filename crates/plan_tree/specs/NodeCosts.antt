@@ -1,7 +1,9 @@
 -- Which nodes are there for a request, by their numbers, and what the program says of their costs.
 use Rattle.std.specs.Prelude.{ℕ, ◌≡◌}
 use Rattle.query_core.specs.Expressions.{expr_of, IsCandidate}
+use Rattle.query_core.specs.Keys.{NamesGroup}
 use Rattle.query_core.specs.declared.query.Query.{Query}
+use Rattle.query_core.specs.declared.words.Key.{Key}
 use Rattle.query_core.specs.declared.words.KeyParts.{KeyParts}
 use Rattle.request_props.specs.declared.request.Request.{Request}
 use Rattle.plan_space.specs.declared.nodes.NodeKind.{NodeKind}
@@ -25,3 +27,8 @@ IsThere q wanted node = (kind : NodeKind) × IsNode node kind × IsNodeFor q wan
 abbrev pub IsCostFor : Query → KeyParts → Request → NodeKind → ℕ → Type 0
 IsCostFor q group wanted (nodes.Native e mode) price = IsNativeCost q e mode wanted price
 IsCostFor q group wanted (nodes.Enforcer enforcer) price = IsCostAmong q enforcer group wanted price
+
+-- that of the node of this number, in a plan of the group of this key
+abbrev pub IsCostOf : Query → Key → Request → Node → ℕ → Type 0
+IsCostOf q key wanted node price =
+    (group : KeyParts) (kind : NodeKind) → NamesGroup q key group → IsNode node kind → IsCostFor q group wanted kind price

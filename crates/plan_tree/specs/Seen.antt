@@ -1,4 +1,4 @@
--- What the program keeps of plans: what a node sees of one plan below it, and of all of them.
+-- What a node sees of the plans below it, as the program keeps it.
 use Rattle.std.specs.Prelude.{List, [], ◌∷◌, ⊤}
 use Rattle.query_core.specs.Keys.{IsGroup}
 use Rattle.query_core.specs.declared.query.Query.{Query}
@@ -6,7 +6,6 @@ use Rattle.plan_space.specs.Nodes.{Tree, leaf, over, two}
 use Rattle.plan_space.specs.declared.nodes.NodeKind.{NodeKind}
 use Rattle.plan_space.specs.declared.nodes.NodeKind.TheVariants as nodes
 use Rattle.plan_space.specs.declared.seen.Kid.{Kid}
-use Rattle.plan_space.specs.Gives.{kid_of}
 use Rattle.plan_tree.specs.declared.seen.Kids.{Kids}
 use Rattle.plan_tree.specs.declared.seen.Kids.TheVariants.{Nothing, One, Two}
 
@@ -21,12 +20,6 @@ abbrev pub root_node : Tree → NodeKind
 root_node (leaf node) = node
 root_node (over node kid) = node
 root_node (two node left right) = node
-
--- what the root of a plan sees of the plans below it
-abbrev pub kids_of : Query → Tree → List Kid
-kids_of q (leaf node) = []
-kids_of q (over node kid) = kid_of q kid ∷ []
-kids_of q (two node left right) = kid_of q left ∷ kid_of q right ∷ []
 
 -- the group of an expression is one of the query's
 abbrev pub HasGroup : Query → NodeKind → Type 0

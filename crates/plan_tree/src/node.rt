@@ -66,7 +66,8 @@ impl Node {
 
 /// No two nodes in range have one number.
 pub fn nodes_are_one()
-    ensures { (k l : AnyNodeKind) → IsNodeInRange k → IsNodeInRange l → number_of k ≡ number_of l → k ≡ l }
+    ensures { (k l : AnyNodeKind) → IsNodeInRange k → IsNodeInRange l →
+        number_of k ≡ number_of l → k ≡ l }
 {
     expressions_are_one();
 }

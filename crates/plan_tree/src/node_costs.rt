@@ -2,13 +2,10 @@
 #![tactic(auto)]
 
 ghost use Rattle.std.specs.Prelude.{◌≤◌};
-ghost use Rattle.query_core.specs.Keys.{IsKey, NamesGroup};
-ghost use Rattle.query_core.specs.declared.words.KeyParts.{KeyParts as AnyKeyParts};
+ghost use Rattle.query_core.specs.Keys.{IsKey};
 ghost use Rattle.cost_units.specs.Cost.{most_cost};
 ghost use Rattle.request_props.specs.Numbered.{IsProps};
-ghost use Rattle.plan_space.specs.declared.nodes.NodeKind.{NodeKind as AnyNodeKind};
-ghost use Rattle.plan_tree.specs.Nodes.{IsNode};
-ghost use Rattle.plan_tree.specs.NodeCosts.{IsCostFor, IsThere};
+ghost use Rattle.plan_tree.specs.NodeCosts.{IsCostOf, IsThere};
 
 use crate::cost::{enforcer_cost_by, native_cost};
 use crate::node::{Node, nodes_are_one};
@@ -21,8 +18,7 @@ pub fn node_cost(query: &Query, props: &Props, key: Key, request: Request, node:
     requires props { IsProps query.now props.now }
     requires key { IsKey query.now key }
     requires node { IsThere query.now request node }
-    ensures value { (g : AnyKeyParts) (kind : AnyNodeKind) → NamesGroup query.now key g → IsNode node kind →
-        IsCostFor query.now g request kind result }
+    ensures value { IsCostOf query.now key request node result }
     ensures some { 1 ≤ result }
     ensures most { result ≤ most_cost }
 {

@@ -4,21 +4,15 @@
 ghost use Rattle.std.specs.Prelude.{◌≡◌, ◌↔◌, IsTrue};
 ghost use Rattle.request_props.specs.Numbered.{IsProps, IsNumbered, order_of};
 ghost use Rattle.request_props.specs.Satisfied.{Satisfies};
-ghost use Rattle.plan_space.specs.Nodes.{Tree};
-ghost use Rattle.plan_space.specs.declared.nodes.NodeKind.{NodeKind as AnyNodeKind};
-ghost use Rattle.plan_space.specs.Gives.{kid_of, kid_under, first_group as the_first_group};
+ghost use Rattle.plan_space.specs.Gives.{kid_under, first_group as the_first_group};
 ghost use Rattle.plan_space.specs.Gives.{first_given as the_first_given};
 ghost use Rattle.plan_space.specs.Gives.{node_group as the_node_group, node_gives as the_node_gives};
 ghost use Rattle.plan_space.specs.Gives.{native_gives as the_native_gives, enforcer_gives as the_enforcer_gives};
 ghost use Rattle.plan_space.specs.Gives.{line_gives as the_line_gives, left_gives as the_left_gives};
 ghost use Rattle.plan_space.specs.Gives.{left_dist as the_left_dist, left_order as the_left_order};
-ghost use Rattle.plan_tree.specs.Nodes.{IsNode};
-ghost use Rattle.plan_tree.specs.Spells.{Spells};
-ghost use Rattle.plan_tree.specs.Seen.{kids_seen, kids_of};
+ghost use Rattle.plan_tree.specs.Seen.{kids_seen};
 
 use crate::lines::line_of;
-use crate::node::Node;
-use crate::plan::Plan;
 use crate::serving::gives;
 use plan_space::{Enforcer, Kid, LeftDist, LeftOrder, Line, NodeKind};
 use query_core::{KeyParts, PhysicalExpr, Query};
@@ -31,44 +25,6 @@ pub enum Kids {
     One(Kid),
     /// The left plan and the right one.
     Two(Kid, Kid),
-}
-
-/// What is seen of a plan.
-pub fn plan_seen(query: &Query, props: &Props, plan: &Plan) -> Kid
-    requires { IsProps query.now props.now }
-    ensures { (t : Tree) → Spells plan.now t → result ≡ kid_of query.now t }
-{
-    match plan {
-        Plan::Leaf(node) => node_seen(query, props, *node, Kids::Nothing),
-        Plan::Over(node, kid) => {
-            let below = Kids::One(plan_seen(query, props, kid));
-            node_seen(query, props, *node, below)
-        }
-        Plan::Two(node, left, right) => {
-            let below = Kids::Two(
-                plan_seen(query, props, left),
-                plan_seen(query, props, right),
-            );
-            node_seen(query, props, *node, below)
-        }
-    }
-}
-
-/// What the root of a plan sees of the plans below it.
-pub fn seen_below(query: &Query, props: &Props, plan: &Plan) -> Kids
-    requires { IsProps query.now props.now }
-    ensures { (t : Tree) → Spells plan.now t → kids_seen result ≡ kids_of query.now t }
-{
-    match plan {
-        Plan::Leaf(_) => Kids::Nothing,
-        Plan::Over(_, kid) => Kids::One(plan_seen(query, props, kid)),
-        Plan::Two(_, left, right) => {
-            Kids::Two(
-                plan_seen(query, props, left),
-                plan_seen(query, props, right),
-            )
-        }
-    }
 }
 
 /// What is seen of a node over plans that are seen so.
@@ -94,21 +50,6 @@ pub fn given_satisfies(query: &Query, props: &Props, given: Given, wanted: Reque
         given.order,
         known_request(query, props, wanted),
     )
-}
-
-// The same of a node by its number; a number that no node has is seen as any plan.
-fn node_seen(query: &Query, props: &Props, node: Node, below: Kids) -> Kid
-    requires { IsProps query.now props.now }
-    ensures { (kind : AnyNodeKind) → IsNode node kind →
-        result ≡ kid_under query.now kind (kids_seen below) }
-{
-    match node.kind() {
-        Some(kind) => seen_above(query, props, kind, below),
-        None => Kid {
-            group: KeyParts::Get(0),
-            given: unordered(GivenDist::One),
-        },
-    }
 }
 
 fn node_group(kind: NodeKind, below: Kids) -> KeyParts

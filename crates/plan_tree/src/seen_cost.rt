@@ -20,20 +20,9 @@ use plan_space::{Enforcer, Kid, NodeKind};
 use query_core::{Key, KeyParts, PhysicalExpr, Query, groups_are_known};
 use request_props::{Props, class_of};
 
-/// The cost of a node over plans that are seen so.
+/// The cost of a node over plans that are seen so. Of groups that the query hasn't, only the least and the most are
+/// said.
 pub fn cost_above(query: &Query, props: &Props, kind: NodeKind, below: Kids) -> u64
-    requires props { IsProps query.now props.now }
-    requires own_group { HasGroup query.now kind }
-    requires groups { HaveGroups query.now below }
-    ensures value { result ≡ local_cost (shape_of query.now kind (kids_seen below)) }
-    ensures some { 1 ≤ result }
-    ensures most { result ≤ most_cost }
-{
-    cost_above_any(query, props, kind, below)
-}
-
-/// The same, over any plans; of groups that the query hasn't no more is said than the least and the most.
-pub fn cost_above_any(query: &Query, props: &Props, kind: NodeKind, below: Kids) -> u64
     requires { IsProps query.now props.now }
     ensures value { HasGroup query.now kind → HaveGroups query.now below →
         result ≡ local_cost (shape_of query.now kind (kids_seen below)) }

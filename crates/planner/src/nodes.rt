@@ -17,7 +17,7 @@ use crate::node::PlanNode;
 use orca_base::{List, Text};
 use plan_lines::{node_kind, node_text};
 use plan_space::{Kid, NodeKind};
-use plan_tree::{Kids, Node, Plan, cost_above_any, rows_above, seen_above};
+use plan_tree::{Kids, Node, Plan, cost_above, rows_above, seen_above};
 use query_core::Query;
 use request_props::Props;
 use std::alloc::{AllocError, Global};
@@ -125,7 +125,7 @@ fn node_over(
         text: Text::of(node_text(alloc, query, props, kind)?),
         columns: columns_of(alloc, query, props, kind)?,
         rows: rows_above(query, props, kind, below),
-        cost: cost_above_any(query, props, kind, below),
+        cost: cost_above(query, props, kind, below),
         children: count_of(below),
     })
 }

@@ -11,7 +11,7 @@ use Rattle.query_core.specs.Crossing.{crossing_of, crossing_at, sides_of, sides_
 use Rattle.query_core.specs.declared.predicate.Pred.{Pred}
 use Rattle.request_props.specs.Ends.{IsEqualityAt, AreEndsOf, HasAcross, HasAcrossBy, HasColumn, CrossesBy}
 use Rattle.request_props.specs.NumberSets.{IsInSet}
-use Rattle.request_props.specs.declared.ends.EqualityEnds.{EqualityEnds}
+use Rattle.request_props.specs.declared.tables.ends.EqualityEnds.{EqualityEnds}
 
 module _ (q : Query) (n a b : ℕ) (is : IsEqualityAt q n a b) where
   below : n < length q.preds

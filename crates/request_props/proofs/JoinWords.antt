@@ -27,7 +27,7 @@ use Rattle.request_props.proofs.WordsOfKinds.{IsWordOf, AreWordsOf, words_as, wo
 use Rattle.request_props.specs.Candidates.{AreCandidatesOf}
 use Rattle.request_props.specs.Joins.{tops_of, AreSides, left_of, AreAllSides, AreBothInRange, join_word, join_words}
 use Rattle.request_props.specs.Joins.{words_by, words_over}
-use Rattle.request_props.specs.declared.candidates.sides.Sides.{Sides}
+use Rattle.request_props.specs.declared.tables.candidates.sides.Sides.{Sides}
 
 -- the join of all tables of a set
 abbrev many_of : ℕ → ExprParts

@@ -8,7 +8,7 @@ use Rattle.std.proofs.Math.Seq.{get_or-append_seam}
 use Rattle.query_core.specs.declared.query.Query.{Query}
 use Rattle.query_core.specs.declared.words.KeyParts.{KeyParts}
 use Rattle.request_props.specs.Ends.{AreEnds, AreEndsOf, HasColumn}
-use Rattle.request_props.specs.declared.ends.EqualityEnds.{EqualityEnds}
+use Rattle.request_props.specs.declared.tables.ends.EqualityEnds.{EqualityEnds}
 
 module _ (q : Query) (IsOneAt : ℕ → ℕ → Type 0) where
   -- sets at no place

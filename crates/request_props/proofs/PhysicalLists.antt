@@ -17,7 +17,7 @@ use Rattle.query_core.specs.declared.expressions.PhysicalExpr.{PhysicalExpr}
 use Rattle.query_core.proofs.Rising.{rises_push}
 use Rattle.request_props.specs.Candidates.{with_word, AreCandidatesOf, IsPhysicalOf, ArePhysicalOf}
 use Rattle.request_props.specs.Filling.{AddsPhysical}
-use Rattle.request_props.specs.declared.physical.PhysicalCandidate.{PhysicalCandidate}
+use Rattle.request_props.specs.declared.tables.physical.PhysicalCandidate.{PhysicalCandidate}
 
 -- the words of these
 abbrev pub words_in : List PhysicalCandidate → List ℕ

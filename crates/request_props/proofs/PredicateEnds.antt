@@ -11,7 +11,7 @@ use Rattle.request_props.specs.Counted.{HaveNumbers, IsByLeft, IsByRight}
 use Rattle.request_props.specs.Ends.{BeginsIn, EndsIn, AreEndsBelow, AreEndsOf}
 use Rattle.request_props.specs.NumberSets.{IsInSet}
 use Rattle.request_props.specs.Numbered.{equality_with, equality_of}
-use Rattle.request_props.specs.declared.ends.EqualityEnds.{EqualityEnds}
+use Rattle.request_props.specs.declared.tables.ends.EqualityEnds.{EqualityEnds}
 use Rattle.request_props.specs.declared.sides.Equality.{Equality}
 
 -- what a list of equalities has at a place, or none beyond its end

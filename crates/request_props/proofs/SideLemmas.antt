@@ -13,7 +13,7 @@ use Rattle.query_core.specs.declared.words.KeyParts.{KeyParts}
 use Rattle.query_core.specs.declared.words.KeyParts.TheVariants.{Join}
 use Rattle.query_core.proofs.Splitting.{tables_top, number_top, right_one, rest_disjoint, left_within}
 use Rattle.request_props.specs.Joins.{IsSide, HasSides, AreSidesAt}
-use Rattle.request_props.specs.declared.candidates.sides.Sides.{Sides}
+use Rattle.request_props.specs.declared.tables.candidates.sides.Sides.{Sides}
 
 -- a set of the query's tables is one of the first ten tables
 pub of_tables_small : (q : Query) (tables : ℕ) → tables < 2 ^ length q.tables → IsGroupInRange (Join tables)

@@ -21,7 +21,7 @@ use Rattle.query_core.proofs.GroupLemmas.{exponent_lt}
 use Rattle.query_core.proofs.Joins.{sides_one}
 use Rattle.query_core.proofs.Rising.{rises_push}
 use Rattle.request_props.specs.Joins.{HasSides, tops_of, AreSides, AreSidesAt, left_of, AreAllSides, AreSidesBelow}
-use Rattle.request_props.specs.declared.candidates.sides.Sides.{Sides}
+use Rattle.request_props.specs.declared.tables.candidates.sides.Sides.{Sides}
 
 -- the group of one table has a key among the first, and that of several the set's
 pub top_number : (q : Query) (a : ℕ) → IsGroupInRange (Join a)

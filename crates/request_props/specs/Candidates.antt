@@ -10,7 +10,7 @@ use Rattle.query_core.specs.declared.query.Query.{Query}
 use Rattle.query_core.specs.declared.words.Expr.{Expr}
 use Rattle.query_core.specs.declared.words.KeyParts.{KeyParts}
 use Rattle.query_core.specs.declared.expressions.PhysicalExpr.{PhysicalExpr}
-use Rattle.request_props.specs.declared.physical.PhysicalCandidate.{PhysicalCandidate}
+use Rattle.request_props.specs.declared.tables.physical.PhysicalCandidate.{PhysicalCandidate}
 
 -- the words of all expressions that the group can hold, and no others, strictly ascending
 pub record AreCandidatesOf (q : Query) (group : KeyParts) (words : List ℕ) : Type 0 where

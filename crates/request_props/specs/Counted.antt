@@ -4,10 +4,10 @@ use Rattle.query_core.specs.declared.query.Query.{Query}
 use Rattle.query_core.specs.declared.words.KeyParts.TheVariants.{Get, Join}
 use Rattle.request_props.specs.Ends.{HasColumn, IsGivenBy}
 use Rattle.request_props.specs.Numbered.{column_list, order_of, side_of}
-use Rattle.request_props.specs.declared.ends.ColumnsBy.TheVariants as kinds
-use Rattle.request_props.specs.declared.ends.ColumnsBy.{ColumnsBy}
-use Rattle.request_props.specs.declared.ends.CountedColumns.TheVariants as columns
-use Rattle.request_props.specs.declared.ends.CountedColumns.{CountedColumns}
+use Rattle.request_props.specs.declared.tables.ends.ColumnsBy.TheVariants as kinds
+use Rattle.request_props.specs.declared.tables.ends.ColumnsBy.{ColumnsBy}
+use Rattle.request_props.specs.declared.tables.ends.CountedColumns.TheVariants as columns
+use Rattle.request_props.specs.declared.tables.ends.CountedColumns.{CountedColumns}
 use Rattle.request_props.specs.declared.sides.Equality.{Equality}
 
 -- it is one of these columns

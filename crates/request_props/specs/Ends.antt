@@ -7,7 +7,7 @@ use Rattle.query_core.specs.declared.predicate.Pred.{Pred}
 use Rattle.query_core.specs.declared.query.Query.{Query}
 use Rattle.query_core.specs.declared.words.KeyParts.{KeyParts}
 use Rattle.query_core.specs.declared.words.KeyParts.TheVariants.{Get, Join}
-use Rattle.request_props.specs.declared.ends.EqualityEnds.{EqualityEnds}
+use Rattle.request_props.specs.declared.tables.ends.EqualityEnds.{EqualityEnds}
 use Rattle.request_props.specs.declared.number_set.NumberSet.{NumberSet}
 use Rattle.request_props.specs.NumberSets.{IsInSet}
 

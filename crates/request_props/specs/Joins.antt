@@ -13,7 +13,7 @@ use Rattle.query_core.specs.declared.query.Query.{Query}
 use Rattle.query_core.specs.declared.words.KeyParts.TheVariants.{Join}
 use Rattle.query_core.specs.declared.expressions.Logical.TheVariants.{NJoin}
 use Rattle.query_core.specs.declared.expressions.Operator.TheVariants as operators
-use Rattle.request_props.specs.declared.candidates.sides.Sides.{Sides}
+use Rattle.request_props.specs.declared.tables.candidates.sides.Sides.{Sides}
 
 -- the tables can be a side of a join: they are connected, and not none
 abbrev pub IsSide : Query → ℕ → Type 0

@@ -15,7 +15,7 @@ use Rattle.request_props.specs.Groups.{AreKeys, AreGroupRows}
 use Rattle.request_props.specs.Candidates.{AreCandidates, ArePhysical}
 use Rattle.request_props.specs.Ends.{AreEnds, AreSetEnds, AreTableEnds, IsGivenBy}
 use Rattle.request_props.specs.Lying.{items_of, AreTablesOf}
-use Rattle.request_props.specs.declared.ends.EqualityEnds.{EqualityEnds}
+use Rattle.request_props.specs.declared.tables.ends.EqualityEnds.{EqualityEnds}
 use Rattle.request_props.specs.declared.given.GivenDist.{GivenDist}
 use Rattle.request_props.specs.declared.given.GivenDist.TheVariants as given
 use Rattle.request_props.specs.declared.sides.Side.{Side}

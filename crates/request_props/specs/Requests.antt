@@ -26,6 +26,10 @@ dist_code Spread = 1
 dist_code Copies = 2
 dist_code (Hashed list) = 3 + list
 
+-- the number is that of the distribution
+abbrev pub HasDistCode : Dist → ℕ → Type 0
+HasDistCode dist code = IsDistInRange dist × (dist_code dist ≡ code)
+
 -- the number of a request
 abbrev pub code_of : Request → ℕ
 code_of request = dist_code request.dist * 64 + request.order

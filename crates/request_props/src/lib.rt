@@ -2,18 +2,13 @@
 //! is met.
 #![tactic(auto)]
 
-mod candidates;
 mod dists;
-mod ends;
 mod fault;
 mod found;
 mod given;
-mod groups;
-mod lying;
 mod number_set;
 mod numbering;
 mod numbers;
-mod physical;
 mod props;
 mod request;
 mod satisfaction;
@@ -25,10 +20,10 @@ pub use fault::PropsFault;
 pub use given::{Given, GivenDist, GivenOrder};
 pub use number_set::NumberSet;
 pub use numbering::listing_is_one;
-pub use physical::PhysicalCandidate;
 pub use props::Props;
 pub use request::{
     Dist, Request, code, codes_are_one, dist_code, dist_field, order_field, request_of,
 };
 pub use satisfaction::{meets, satisfies};
 pub use sides::Side;
+pub use tables::physical::PhysicalCandidate;

@@ -2,7 +2,7 @@ ghost use Rattle.std.specs.Prelude.{◌≡◌, ◌↔◌, ◌<◌, Some};
 ghost use Rattle.request_props.specs.declared.request.Request.{Request};
 ghost use Rattle.request_props.specs.declared.request.Dist.{Dist as AnyDist};
 ghost use Rattle.request_props.specs.Requests.{IsRequestInRange, IsDistInRange, dist_code as the_dist_code};
-ghost use Rattle.request_props.specs.Requests.{code_of, HasCode};
+ghost use Rattle.request_props.specs.Requests.{code_of, HasCode, HasDistCode};
 ghost use Rattle.request_props.specs.Requests.{dist_field as the_dist_field, order_field as the_order_field};
 
 /// The distribution that is asked for.
@@ -82,7 +82,7 @@ pub fn codes_are_one()
 {}
 
 fn dist_of(code: u32) -> Option<Dist>
-    ensures exact { (d : AnyDist) → (IsDistInRange d × (the_dist_code d ≡ code)) ↔ (result ≡ Some d) }
+    ensures exact { (d : AnyDist) → HasDistCode d code ↔ (result ≡ Some d) }
 {
     match code {
         0 => Some(Dist::One),

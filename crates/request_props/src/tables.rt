@@ -5,14 +5,20 @@ ghost use Rattle.std.specs.Prelude.{◌≡◌, ◌≤◌, IfOk, length};
 ghost use Rattle.request_props.specs.Numbered.{lists_of, orders_of};
 ghost use Rattle.request_props.specs.Numbered.{AreGroupTables, AreEqualityTables, ArePlacementTables};
 
-use crate::candidates::group_candidates;
-use crate::ends::{ColumnsBy, EqualityEnds, ends_by};
+pub mod candidates;
+pub mod ends;
+pub mod groups;
+pub mod lying;
+pub mod physical;
+
 use crate::given::GivenDist;
-use crate::groups::{group_rows, query_keys};
-use crate::lying::{tables_of_lists, tables_of_orders};
 use crate::numbers::{equalities, group_order, grouped, placings};
-use crate::physical::{PhysicalCandidate, group_physical};
 use crate::sides::Equality;
+use crate::tables::candidates::group_candidates;
+use crate::tables::ends::{ColumnsBy, EqualityEnds, ends_by};
+use crate::tables::groups::{group_rows, query_keys};
+use crate::tables::lying::{tables_of_lists, tables_of_orders};
+use crate::tables::physical::{PhysicalCandidate, group_physical};
 use orca_base::List;
 use query_core::{Query, sets};
 use std::alloc::{AllocError, Global};

@@ -22,8 +22,8 @@ use Rattle.request_props.specs.Candidates.{AreCandidates, AreCandidatesOf, ArePh
 use Rattle.request_props.specs.Ends.{AreEnds, AreEndsBelow, BeginsIn, EndsIn, IsEqualityAt}
 use Rattle.request_props.specs.Lying.{AreTablesOf}
 use Rattle.request_props.specs.Numbered.{AreEqualityTables, AreGroupTables, ArePlacementTables, IsProps, IsRoot}
-use Rattle.request_props.specs.declared.ends.EqualityEnds.{EqualityEnds}
-use Rattle.request_props.specs.declared.physical.PhysicalCandidate.{PhysicalCandidate}
+use Rattle.request_props.specs.declared.tables.ends.EqualityEnds.{EqualityEnds}
+use Rattle.request_props.specs.declared.tables.physical.PhysicalCandidate.{PhysicalCandidate}
 use Rattle.request_props.specs.declared.props.Props.{Props}
 use Rattle.request_props.specs.declared.request.Request.{Request}
 use Rattle.request_props.specs.declared.tables.EqualityTables.{EqualityTables}

@@ -11,7 +11,7 @@ ghost use Rattle.text_check.specs.OwnLines.{own_lines as the_own_lines, AddsLine
 
 use plan_lines::node_kind;
 use plan_space::{Kid, NodeKind};
-use plan_tree::{Kids, Node, Plan, cost_above_any, rows_above, seen_above};
+use plan_tree::{Kids, Node, Plan, cost_above, rows_above, seen_above};
 use query_core::Query;
 use request_props::Props;
 use std::alloc::{AllocError, Global};
@@ -82,7 +82,7 @@ fn push_line(
     lines.push(OwnLine {
         node: kind,
         rows: rows_above(query, props, kind, below),
-        cost: cost_above_any(query, props, kind, below),
+        cost: cost_above(query, props, kind, below),
     })?;
     Ok(seen_above(query, props, kind, below))
 }

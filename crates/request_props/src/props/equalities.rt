@@ -9,16 +9,16 @@ ghost use Rattle.request_props.specs.Counted.{IsAmong};
 ghost use Rattle.request_props.specs.Ends.{AreCrossingBy, AreEndsOf, HasColumn, IsGivenBy};
 ghost use Rattle.request_props.specs.NumberSets.{IsInSet};
 ghost use Rattle.request_props.specs.declared.given.GivenDist.TheVariants.{Hashed};
-ghost use Rattle.request_props.specs.declared.ends.EqualityEnds.{EqualityEnds as AnyEqualityEnds};
+ghost use Rattle.request_props.specs.declared.tables.ends.EqualityEnds.{EqualityEnds as AnyEqualityEnds};
 ghost use Rattle.request_props.specs.Numbered.{IsProps, side_of, both_sides, equality_of};
 ghost use Rattle.request_props.specs.Numbered.{order_of, column_list, column_order};
 ghost use Rattle.request_props.specs.Satisfied.{BeginsWith, Meets};
 
-use crate::ends::{CountedColumns, EqualityEnds, ends_of};
 use crate::number_set::NumberSet;
 use crate::props::Props;
 use crate::request::Dist;
 use crate::sides::{Equality, Side};
+use crate::tables::ends::{CountedColumns, EqualityEnds, ends_of};
 use query_core::{KeyParts, Query};
 
 impl Props {

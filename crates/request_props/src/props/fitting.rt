@@ -9,9 +9,9 @@ ghost use Rattle.request_props.specs.Lying.{ListLiesIn};
 ghost use Rattle.request_props.specs.Fitting.{ListFits, Fits, HashFits, OrderFits};
 
 use crate::dists::list_asked;
-use crate::lying::covers;
 use crate::props::Props;
 use crate::request::Request;
+use crate::tables::lying::covers;
 use query_core::{KeyParts, OrderKey, Query};
 
 impl Props {

@@ -11,9 +11,9 @@ ghost use Rattle.request_props.specs.Numbered.{table_dist as the_table_dist, gro
 ghost use Rattle.request_props.specs.Numbered.{is_grouped_list as the_is_grouped_list};
 
 use crate::given::GivenDist;
-use crate::groups::is_key;
-use crate::physical::PhysicalCandidate;
 use crate::props::Props;
+use crate::tables::groups::is_key;
+use crate::tables::physical::PhysicalCandidate;
 use query_core::{Expr, KEYS, Key, KeyParts, Query, bound_after, count_below, groups_are_known};
 
 impl Props {

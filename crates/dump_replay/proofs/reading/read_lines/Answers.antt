@@ -11,7 +11,17 @@ returns-in_default-2 c = (
     line = off;
     here = refl;
     rest = c.in-Some-root_line.rest.now;
-    before = (version_line, c.in-Some.rest.now, c.in-Some.ensures, (capacity_line c.in-Some-capacity_line.capacity, c.in-Some-capacity_line.rest.now, c.in-Some-capacity_line.ensures.says, (root_line c.in-Some-root_line.root, c.in-Some-root_line.rest.now, c.in-Some-root_line.ensures, refl)));
+    before = (
+      version_line,
+      c.in-Some.rest.now,
+      c.in-Some.ensures,
+      (
+        capacity_line c.in-Some-capacity_line.capacity,
+        c.in-Some-capacity_line.rest.now,
+        c.in-Some-capacity_line.ensures.says,
+        (root_line c.in-Some-root_line.root, c.in-Some-root_line.rest.now, c.in-Some-root_line.ensures, refl),
+      ),
+    );
     lacking = rw c.in_default-2.is at c.in_ok-off.ensures.says;
   },
 )
@@ -23,7 +33,22 @@ returns-in_default-print_line c = (
     line = print;
     here = refl;
     rest = c.in-Some-2.rest.now;
-    before = (version_line, c.in-Some.rest.now, c.in-Some.ensures, (capacity_line c.in-Some-capacity_line.capacity, c.in-Some-capacity_line.rest.now, c.in-Some-capacity_line.ensures.says, (root_line c.in-Some-root_line.root, c.in-Some-root_line.rest.now, c.in-Some-root_line.ensures, (off_line c.in-Some-2.off, c.in-Some-2.rest.now, rw c.in-Some-2.is at c.in_ok-off.ensures.says, refl))));
+    before = (
+      version_line,
+      c.in-Some.rest.now,
+      c.in-Some.ensures,
+      (
+        capacity_line c.in-Some-capacity_line.capacity,
+        c.in-Some-capacity_line.rest.now,
+        c.in-Some-capacity_line.ensures.says,
+        (
+          root_line c.in-Some-root_line.root,
+          c.in-Some-root_line.rest.now,
+          c.in-Some-root_line.ensures,
+          (off_line c.in-Some-2.off, c.in-Some-2.rest.now, rw c.in-Some-2.is at c.in_ok-off.ensures.says, refl),
+        ),
+      ),
+    );
     lacking = c.in_default-print_line.ensures;
   },
 )
@@ -35,7 +60,32 @@ returns-in_default-catalog_line c = (
     line = catalog;
     here = refl;
     rest = c.in-Some-print_line.rest.now;
-    before = (version_line, c.in-Some.rest.now, c.in-Some.ensures, (capacity_line c.in-Some-capacity_line.capacity, c.in-Some-capacity_line.rest.now, c.in-Some-capacity_line.ensures.says, (root_line c.in-Some-root_line.root, c.in-Some-root_line.rest.now, c.in-Some-root_line.ensures, (off_line c.in-Some-2.off, c.in-Some-2.rest.now, rw c.in-Some-2.is at c.in_ok-off.ensures.says, (print_line c.in-Some-print_line.memo c.in-Some-print_line.trace, c.in-Some-print_line.rest.now, c.in-Some-print_line.ensures, refl)))));
+    before = (
+      version_line,
+      c.in-Some.rest.now,
+      c.in-Some.ensures,
+      (
+        capacity_line c.in-Some-capacity_line.capacity,
+        c.in-Some-capacity_line.rest.now,
+        c.in-Some-capacity_line.ensures.says,
+        (
+          root_line c.in-Some-root_line.root,
+          c.in-Some-root_line.rest.now,
+          c.in-Some-root_line.ensures,
+          (
+            off_line c.in-Some-2.off,
+            c.in-Some-2.rest.now,
+            rw c.in-Some-2.is at c.in_ok-off.ensures.says,
+            (
+              print_line c.in-Some-print_line.memo c.in-Some-print_line.trace,
+              c.in-Some-print_line.rest.now,
+              c.in-Some-print_line.ensures,
+              refl,
+            ),
+          ),
+        ),
+      ),
+    );
     lacking = c.in_default-catalog_line.ensures;
   },
 )
@@ -47,7 +97,37 @@ returns-in_default-query_line c = (
     line = query;
     here = refl;
     rest = c.in-Some-catalog_line.rest.now;
-    before = (version_line, c.in-Some.rest.now, c.in-Some.ensures, (capacity_line c.in-Some-capacity_line.capacity, c.in-Some-capacity_line.rest.now, c.in-Some-capacity_line.ensures.says, (root_line c.in-Some-root_line.root, c.in-Some-root_line.rest.now, c.in-Some-root_line.ensures, (off_line c.in-Some-2.off, c.in-Some-2.rest.now, rw c.in-Some-2.is at c.in_ok-off.ensures.says, (print_line c.in-Some-print_line.memo c.in-Some-print_line.trace, c.in-Some-print_line.rest.now, c.in-Some-print_line.ensures, (catalog_line c.in-Some-catalog_line.catalog.now, c.in-Some-catalog_line.rest.now, c.in-Some-catalog_line.ensures, refl))))));
+    before = (
+      version_line,
+      c.in-Some.rest.now,
+      c.in-Some.ensures,
+      (
+        capacity_line c.in-Some-capacity_line.capacity,
+        c.in-Some-capacity_line.rest.now,
+        c.in-Some-capacity_line.ensures.says,
+        (
+          root_line c.in-Some-root_line.root,
+          c.in-Some-root_line.rest.now,
+          c.in-Some-root_line.ensures,
+          (
+            off_line c.in-Some-2.off,
+            c.in-Some-2.rest.now,
+            rw c.in-Some-2.is at c.in_ok-off.ensures.says,
+            (
+              print_line c.in-Some-print_line.memo c.in-Some-print_line.trace,
+              c.in-Some-print_line.rest.now,
+              c.in-Some-print_line.ensures,
+              (
+                catalog_line c.in-Some-catalog_line.catalog.now,
+                c.in-Some-catalog_line.rest.now,
+                c.in-Some-catalog_line.ensures,
+                refl,
+              ),
+            ),
+          ),
+        ),
+      ),
+    );
     lacking = c.in_default-query_line.ensures;
   },
 )

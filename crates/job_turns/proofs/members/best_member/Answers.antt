@@ -2,7 +2,7 @@
 use Rattle.std.proofs.Common.{[], ℕ, ◌+◌, List, None, take, sym, subst}
 use Rattle.std.proofs.lemmas.List.{take_all}
 use Rattle.query_core.specs.declared.words.KeyParts.{KeyParts}
-use Rattle.request_props.specs.declared.physical.PhysicalCandidate.{PhysicalCandidate}
+use Rattle.request_props.specs.declared.tables.physical.PhysicalCandidate.{PhysicalCandidate}
 use Rattle.goal_board.specs.Seats.{hands}
 use Rattle.board_moves.proofs.Shown.{still_finished}
 use Rattle.board_moves.proofs.MovesLemmas.{later_proceeded}
