@@ -5,7 +5,7 @@ use Rattle.std.proofs.lemmas.Bool.Decides.{nat_tests}
 use native.Mathlib.Decide.{ℕ_discrete}
 use mathlib.Core.Logic.{dite}
 use Rattle.batch_pool.specs.Rule.{times, once_below, HasEachOnce}
-use Rattle.batch_pool.specs.Runs.{times_run, AreRun, HoldsResult, HasPlaced, ArePlaced}
+use Rattle.batch_pool.specs.Runs.{AreRun, HoldsResult, HasPlaced, ArePlaced}
 use Rattle.batch_pool.specs.declared.worker.RanItem.{RanItem}
 use Rattle.batch_pool.specs.declared.places.Placed.{Placed}
 use Rattle.batch_pool.proofs.Lists.{times-append}

@@ -60,10 +60,6 @@ module _ (Has Wanted : ℕ → Type 0) (wanted_has : (word : ℕ) → Wanted wor
     least = λ other is above. next.least other (wanted_has other is) (passes.none_passed other is above);
   }
 
-  -- no word comes next
-  pub passes_all : IsNextOf Has before None → IsNextOf Wanted start None
-  passes_all none = λ word wanted above. none word (wanted_has word wanted) (passes.none_passed word wanted above)
-
 -- at the start none was passed
 pub passes_none : (Wanted : ℕ → Type 0) (start : Option ℕ) → Passes Wanted start start
 passes_none Wanted start = record { none_passed = λ word wanted above. above; after = λ word above. above }

@@ -31,14 +31,6 @@ valued_first words word value more others first second takes = ap pieces_of (fir
     taken : pieces_of (word ∷ value ∷ more) ≡ in_front (valued_piece word value) (pieces_of more)
     taken = rw takes refl
 
--- the option's value is missing
-pub value_missing : (words : List (List ℕ)) (word : List ℕ) (others : List (List ℕ)) → words ≡ word ∷ others
-    → others ≡ [] → is_valued word ≡ true → pieces_of words ≡ None
-value_missing words word others first none takes = ap pieces_of (first ∙ ap (λ ws. word ∷ ws) none) ∙ taken
-  where
-    taken : pieces_of (word ∷ []) ≡ None
-    taken = rw takes refl
-
 -- the first word is a piece alone
 pub alone_first : (words : List (List ℕ)) (word : List ℕ) (others : List (List ℕ)) → words ≡ word ∷ others
     → is_valued word ≡ false → pieces_of words ≡ in_front (piece_of word) (pieces_of others)
@@ -47,14 +39,6 @@ alone_first words word others first takes = ap pieces_of first ∙ of_others oth
     of_others : (ws : List (List ℕ)) → pieces_of (word ∷ ws) ≡ in_front (piece_of word) (pieces_of ws)
     of_others [] = rw takes refl
     of_others (v ∷ more) = rw takes refl
-
--- where there is no first piece, or no command with it, there is no command
-pub no_piece : (task : TaskName) (before : List Piece) (words more : List (List ℕ)) (first : Option Piece)
-    → pieces_of words ≡ in_front first (pieces_of more) → first ≡ None
-    → option_and_then (λ after. command_from task (before ++ after)) (pieces_of words) ≡ None
-no_piece task before words more first is none =
-    ap (option_and_then (λ after. command_from task (before ++ after))) (is
-    ∙ ap (λ f. in_front f (pieces_of more)) none)
 
 pub no_room : (task : TaskName) (before : List Piece) (piece : Piece) (words more : List (List ℕ))
     → pieces_of words ≡ in_front (Some piece) (pieces_of more)

@@ -8,7 +8,7 @@ use Rattle.std.proofs.lemmas.Bool.{false≢true, and_parts}
 use Rattle.std.proofs.lemmas.Bool.Decides.{nat_tests}
 use Rattle.std.proofs.lemmas.List.Folds.{list_all-append}
 use Rattle.json.specs.Json as json
-use Rattle.json.specs.Json.{Json, Items, Members, member, no_members}
+use Rattle.json.specs.Json.{Json, Members, member, no_members}
 use Rattle.json.specs.Print.{print_from, token_text, separator, ends, escape, escape_byte, escape_letter, quoted, begins}
 use Rattle.json.specs.Token.{Token, begin_object, end_object, begin_array, end_array, key, string, number, boolean, null, bad}
 use Rattle.json.specs.Tree.{json_tokens, items_tokens, members_tokens}

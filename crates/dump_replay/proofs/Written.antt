@@ -31,9 +31,6 @@ print_one_line true false = refl
 print_one_line false true = refl
 print_one_line true true = refl
 
-catalog_line_one : (text : List ℕ) → IsOneLine text → IsOneLine (catalog_line text)
-catalog_line_one text is = is
-
 -- ---- the lines of a dump
 
 -- the rules of a dump may be off

@@ -8,8 +8,6 @@ use Rattle.board_rule.specs.Looks.{Looked}
 use Rattle.board_rule.specs.Seats.{Among, Each, changed, woken_by, next_read, bit_cleared}
 use Rattle.board_rule.specs.declared.hands.Hands.{Hands}
 use Rattle.goal_board.specs.Alone.{StaysAlone, ChangesRuns, LoneWakes}
-use Rattle.goal_board.specs.RightCalls.{Wakes}
-use Rattle.goal_board.specs.declared.answers.Woken.{Woken}
 use Rattle.goal_board.proofs.Kept.{stays_changed, stays_then}
 
 -- run words alone change where one does
@@ -117,25 +115,6 @@ woken_more capacity v w number one q name found old near =
         some_one = old.some_one;
       }),
     )
-
--- the walk is at its end
-pub wakes_all : {R : Type 0} (capacity : ℕ) (v w : Hands R) (woken : Woken)
-    → HasWoken capacity v woken.count woken.one w
-    → w.walk.waiters ≡ [] → Wakes capacity v woken w
-wakes_all capacity v w woken old at_end = record {
-  more = old.more;
-  words = old.words;
-  gained = old.gained;
-  left = w.walk;
-  hands_are = old.hands_are;
-  at_end = at_end;
-  lone = old.lone;
-  quiet = old.quiet;
-  near = old.near;
-  counted = old.counted;
-  none = old.none;
-  one = old.some_one;
-}
 
 -- it puts no wait in
 pub woken_pending : {R : Type 0} {capacity : ℕ} {v w : Hands R} {number : ℕ} {one : Option ℕ}

@@ -1,5 +1,5 @@
 -- No two requests have one code.
-use Rattle.std.proofs.Common.{◌≡◌, ℕ, refl, ap, ◌∙◌, arith}
+use Rattle.std.proofs.Common.{◌≡◌, ℕ, ap, ◌∙◌, arith}
 use Rattle.query_core.specs.Goals.{FitsCode}
 use Rattle.request_props.specs.Requests as requests
 use Rattle.request_props.specs.Requests.{code_of}

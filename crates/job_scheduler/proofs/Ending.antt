@@ -1,10 +1,10 @@
 -- What a step leaves of a crew's worker, and what it shows at the end.
-use Rattle.std.proofs.Common.{◌≡◌, ℕ, ◌<◌, List, Option, Some, sym, ap, subst, inl, inr, ⊎_elim}
+use Rattle.std.proofs.Common.{◌≡◌, ℕ, ◌<◌, sym, ap, subst, inl, inr, ⊎_elim}
 use Rattle.board_rule.specs.Meaning.{Meaning}
 use Rattle.board_rule.specs.Looks.{ShowsClosed, ShowsFull}
 use Rattle.board_rule.specs.declared.hands.Hands.{Hands}
-use Rattle.job_scheduler.specs.Steps.{Steps, FinishesOne, SuspendsOne, work_left}
-use Rattle.job_scheduler.specs.Crews.{ShowsEnd, AreDoneBelow, work_alone_left}
+use Rattle.job_scheduler.specs.Steps.{Steps, FinishesOne, SuspendsOne}
+use Rattle.job_scheduler.specs.Crews.{ShowsEnd, AreDoneBelow}
 use Rattle.job_scheduler.specs.declared.stepped.Stepped.{Stepped}
 use Rattle.job_scheduler.specs.declared.stepped.Stepped.TheVariants as stepped
 use Rattle.job_scheduler.proofs.Looking.{closed_later, full_later}
@@ -30,14 +30,3 @@ module _ {R : Type 0} (meaning : Meaning) (capacity root number n : ℕ) where
   pub full_ends : (v w : Hands R) → Steps meaning capacity root number v stepped.Full w → ShowsEnd w.looks root
   full_ends v w t = inr (subst (λ looks. ShowsFull looks) (sym t.runs_out.looks)
       (full_later t.runs_out.more v.looks t.runs_out.full))
-
--- less is left to do
-pub less_left : (meaning : Meaning) (capacity : ℕ) (before after : Option (List ℕ)) (kept words : List ℕ)
-    → before ≡ Some kept → after ≡ Some words
-    → work_left meaning capacity words < work_left meaning capacity kept
-    → work_alone_left meaning capacity after < work_alone_left meaning capacity before
-less_left meaning capacity before after kept words was is less =
-    subst (λ (b : Option (List ℕ)). work_alone_left meaning capacity after < work_alone_left meaning capacity b)
-    (sym was)
-    (subst (λ (a : Option (List ℕ)). work_alone_left meaning capacity a < work_left meaning capacity kept) (sym is)
-    less)

@@ -41,11 +41,6 @@ module _ {R : Type 0} (meaning : Meaning) (capacity : ℕ) where
     claims = t.claims;
   }
 
-  pub may_claim_after : (u v : Hands R) (result : Option Right) (w : Hands R) → OnlyLooked u v
-      → MayClaimOne meaning capacity v result w → MayClaimOne meaning capacity u result w
-  may_claim_after u v (Some right) w a t = claims_after u v right w a t
-  may_claim_after u v None w a t = looks_both u v w a t
-
   -- what was seen was seen
   pub claims_later : (v : Hands R) (right : Right) (w : Hands R) → LooksAndClaims meaning capacity v right w
       → Later v.looks w.looks

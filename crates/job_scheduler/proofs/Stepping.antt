@@ -76,9 +76,6 @@ module _ {R : Type 0} where
     looks = looks_later v w a;
   }
 
-  pub looked_free : (v w : Hands R) → OnlyLooked v w → v.rights ≡ [] → w.rights ≡ []
-  looked_free v w a free = ap (λ (h : Hands R). h.rights) a.hands_are ∙ free
-
 module _ {R : Type 0} (meaning : Meaning) (capacity : ℕ) where
   -- what a claim leaves as it was, and what it adds
   module _ (u : Hands R) (right : Right) (v : Hands R) (t : LooksAndClaims meaning capacity u right v) where

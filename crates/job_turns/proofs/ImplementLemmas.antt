@@ -2,7 +2,7 @@
 use Rattle.std.proofs.Common.{◌≡◌, ℕ, Bool, true, false, IsTrue, Option, None, Some, List, refl, sym, ap, subst, ◌∙◌}
 use Rattle.std.proofs.Common.{inl, inr, ⊎_elim}
 use Rattle.std.proofs.lemmas.Bool.{false≢true}
-use Rattle.query_core.specs.Expressions.{is_logical, origin_of, word_of, IsCandidate}
+use Rattle.query_core.specs.Expressions.{is_logical, word_of, IsCandidate}
 use Rattle.query_core.specs.declared.query.Query.{Query}
 use Rattle.query_core.specs.declared.words.KeyParts.{KeyParts}
 use Rattle.query_core.specs.declared.expressions.ExprParts.{ExprParts}
@@ -56,9 +56,6 @@ pub record IsImplementedFrom (q : Query) (x e : ExprParts) (rule : Rule) : Type 
   pub is_result : IsResultOf q rule e x
 
 module _ (q : Query) (laws : ResultLaws q) where
-  origin_logical : (group : KeyParts) → is_logical (origin_of q group).operator ≡ true
-  origin_logical group = refl
-
   -- a physical member is such a result
   pub implemented_from : (x : ExprParts) → IsMember q x → is_logical x.operator ≡ false → (e : ExprParts)
       × (rule : Rule) × IsImplementedFrom q x e rule

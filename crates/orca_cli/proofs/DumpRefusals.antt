@@ -1,5 +1,5 @@
 -- Bytes that aren't replayed, and files of which a dump is made.
-use Rattle.std.proofs.Common.{◌≡◌, ◌≢◌, ◌<◌, ℕ, List, Option, Ok, Err, length, codes, refl, subst, ap}
+use Rattle.std.proofs.Common.{◌≡◌, ◌≢◌, ◌<◌, ℕ, List, Ok, Err, length, codes, refl, ap}
 use Rattle.std.specs.Prelude.{Vec}
 use Rattle.std.specs.declared.alloc.Global.{Global}
 use Rattle.query_core.specs.declared.catalog.Catalog.{Catalog}
@@ -10,15 +10,13 @@ use Rattle.dump_replay.specs.Dumps.{IsReadAs}
 use Rattle.dump_replay.specs.declared.dump.Dump.{Dump}
 use Rattle.dump_replay.specs.declared.dump.DumpFault.{DumpFault}
 use Rattle.dump_replay.specs.declared.dump.DumpFault.TheVariants as dumps
-use Rattle.command_line.specs.Command.{FileNames}
 use Rattle.orca_cli.specs.Asked.{SaysCatalog, Asks}
-use Rattle.orca_cli.specs.Prepared.{Offers, AsksNothing, IsReplayRefused, over_none, over_catalog, no_dump, no_query}
+use Rattle.orca_cli.specs.Prepared.{AsksNothing, IsReplayRefused, over_none, over_catalog, no_dump, no_query}
 use Rattle.orca_cli.specs.Prepared.{IsCatalogRefused, IsQueryRefused}
 use Rattle.orca_cli.specs.Replays.{IsNoDump}
 use Rattle.orca_cli.specs.Texts as texts
-use Rattle.orca_cli.specs.Views.{AreDumped, EndsWith, IsAsked, IsDumpedOf, IsDumpedOver}
+use Rattle.orca_cli.specs.Views.{EndsWith, IsAsked, IsDumpedOf}
 use Rattle.orca_cli.specs.declared.asked.Asked.{Asked}
-use Rattle.orca_cli.specs.declared.asked.Dumped.{Dumped}
 use Rattle.orca_cli.specs.declared.ending.End.{End}
 use Rattle.orca_cli.specs.declared.status.Status.TheVariants.{DumpRefused}
 use Rattle.orca_cli.proofs.Ended.{ends_then}
@@ -68,14 +66,4 @@ is_dumped_of catalog options text select asked reading asks = record {
   reading = reading;
   query = asked.query;
   asks = asks.query_is;
-}
-
--- the query and the catalogue of two files, where the shelf tells of the second one what it told before
-pub are_dumped : (files : FileNames) (options : Options) (held : List ℕ → Option (List ℕ)) (told : Option (List ℕ))
-    (catalog : Catalog) (dumped : Dumped) → Offers (held files.catalog) catalog → told ≡ held files.query
-    → IsDumpedOver catalog options told dumped → AreDumped files options held dumped
-are_dumped files options held told catalog dumped offers same over = record {
-  catalog = catalog;
-  offers = offers;
-  is_dumped = subst (λ h. IsDumpedOver catalog options h dumped) same over;
 }

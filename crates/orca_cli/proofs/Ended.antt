@@ -1,20 +1,18 @@
 -- What is put of the end of a run.
 use Rattle.std.proofs.Common.{◌≡◌, ℕ, List, Option, None, Some, refl, sym, subst}
 use Rattle.command_line.specs.Command.{ListNames, AnyTask, AnyCommand}
-use Rattle.command_line.specs.Command.{plan, gen, stages, check, dump, replay, batch}
+use Rattle.command_line.specs.Command.{plan, stages, check, batch}
 use Rattle.command_line.specs.HeldStages.{stages_read}
 use Rattle.command_line.specs.Views.{command_read, task_read}
-use Rattle.command_line.specs.declared.settings.Settings.{Settings}
 use Rattle.command_line.specs.declared.command.GenInput.{GenInput}
 use Rattle.orca_cli.specs.Answers.{Note, IsSearchEnd}
-use Rattle.orca_cli.specs.Batches.{IsBatch}
 use Rattle.orca_cli.specs.Checked.{IsCheckEnd}
 use Rattle.orca_cli.specs.Lists.{IsListRefused}
-use Rattle.orca_cli.specs.Prepared.{Reads, generated_in, IsAskedBy, IsForOne, AsksForOne, unusable, by_file, Stops}
+use Rattle.orca_cli.specs.Prepared.{Reads, generated_in, IsAskedBy, unusable, by_file, Stops}
 use Rattle.orca_cli.specs.Run.{IsEnding, answered, own_end, stopped, IsRun, Puts, Ends, whole, cut_short, nothing}
 use Rattle.orca_cli.specs.Sections.{Tells}
 use Rattle.orca_cli.specs.Staged.{IsStagedEnd}
-use Rattle.orca_cli.specs.Views.{EndsAs, EndsWith, IsEndOf, text_of, AreListed, AsksFor, IsWorkForOne}
+use Rattle.orca_cli.specs.Views.{EndsAs, EndsWith, IsEndOf, text_of, AreListed, AsksFor}
 use Rattle.orca_cli.specs.Views.{IsWanted}
 use Rattle.orca_cli.specs.declared.asked.Asked.{Asked}
 use Rattle.orca_cli.specs.declared.asked.Checked.{Checked}
@@ -95,17 +93,6 @@ module _ (named : Option AnyCommand) (shelf : Reads) (note : Note) (wanted : Wan
       let (files, task, are) = asked_for named shelf.held wanted (works.List listed) work is in
       task_run named shelf note note wanted status text is (batch files) task (ends files are)
 
-  -- each line was answered
-  pub answered_run : IsBatch listed.catalog wanted.command.settings listed.list.items status text
-      → IsRun named shelf note note status text
-  answered_run answers = list_run (λ files are. own_end (record {
-    catalog = listed.catalog;
-    offers = are.offers;
-    list = listed.list.items;
-    told = are.told;
-    is_batch = answers;
-  }) refl)
-
   -- the list was refused
   pub refused_run : IsListRefused wanted.command.settings.capacity listed.list.items status text
       → IsRun named shelf note note status text
@@ -139,35 +126,6 @@ checked_run named shelf note wanted checked status text work is end =
       told = asks.told;
       end = end;
     }) refl)
-
--- a command that one worker does asks for work that one does
-pub work_for_one : (named : Option AnyCommand) (held : List ℕ → Option (List ℕ)) (wanted : Wanted) → AsksForOne named
-    → IsWanted named held wanted → IsWorkForOne wanted.work wanted.command.settings.workers
-work_for_one named held wanted alone is =
-    of_work wanted.work is.asks_for (subst AsksForOne is.named_is alone)
-  where
-    settings : Settings
-    settings = wanted.command.settings
-
-    -- whatever the task is, it asks for one worker
-    one_worker : (task : AnyTask) → IsForOne task settings → settings.workers ≡ 1
-    one_worker (plan files) for_one = for_one
-    one_worker (gen input) for_one = for_one
-    one_worker (stages named) for_one = absurd for_one
-    one_worker (check named) for_one = for_one
-    one_worker (dump files) for_one = for_one
-    one_worker (replay file) for_one = for_one
-    one_worker (batch files) for_one = for_one
-
-    of_work : (work : Work) → AsksFor (task_read wanted.command.task) settings.options held work
-        → IsForOne (task_read wanted.command.task) settings → IsWorkForOne work settings.workers
-    of_work (works.Query asked) asks for_one = one_worker (task_read wanted.command.task) for_one
-    of_work (works.Stages staged) (names, task, asks) for_one =
-        absurd (subst (λ k. IsForOne k settings) task for_one)
-    of_work (works.Check checked) asks for_one = one_worker (task_read wanted.command.task) for_one
-    of_work (works.Dump dumped) asks for_one = one_worker (task_read wanted.command.task) for_one
-    of_work (works.Replay again) asks for_one = one_worker (task_read wanted.command.task) for_one
-    of_work (works.List listed) asks for_one = one_worker (task_read wanted.command.task) for_one
 
 -- the end of a run that searched nothing, and left the note as it was
 pub stopped_run : (named : Option AnyCommand) (shelf : Reads) (empty note : Note) (end : End) → note ≡ empty

@@ -26,12 +26,11 @@ use Rattle.request_props.specs.Numbered.{IsRefusedFor}
 use Rattle.request_props.specs.declared.fault.PropsFault.{PropsFault}
 use Rattle.request_props.specs.declared.fault.PropsFault.TheVariants as limits
 use Rattle.text_check.specs.declared.text_fault.TextFault.TheVariants as plans
-use Rattle.command_line.specs.Command.{FileNames}
 use Rattle.orca_cli.specs.Asked.{IsNoCatalog, IsBoundAs, IsUnread, IsUnbound, IsUnnumbered, IsRefused}
 use Rattle.orca_cli.specs.Prepared.{Reads, reads, AreTold, Offers}
-use Rattle.orca_cli.specs.Prepared.{IsAskedAt, FilesAsk, IsCatalogRefused, IsQueryRefused}
+use Rattle.orca_cli.specs.Prepared.{IsCatalogRefused, IsQueryRefused}
 use Rattle.orca_cli.specs.Lists.{lines_of, are_too_many, IsListRefused}
-use Rattle.orca_cli.specs.Prepared.{IsReadFault, IsPlanTooLong, FileStops, unread}
+use Rattle.orca_cli.specs.Prepared.{IsPlanTooLong, FileStops, unread}
 use Rattle.orca_cli.specs.Prepared.{unusable, FilesStop, by_catalog, by_file}
 use Rattle.orca_cli.specs.Texts as texts
 use Rattle.orca_cli.specs.Views.{EndsAs, EndsWith, text_of}
@@ -118,10 +117,6 @@ module _ (Refuses : List ℕ → Status → List ℕ → Type 0) (name : List �
   file_refused bytes result told = IfErr-weaker result _ _
       (λ end stops. ends_then (Refuses bytes) (FileStops Refuses name shelf) end (λ s t why. unusable bytes told why)
       stops)
-
-  -- the file couldn't be read
-  pub file_unread : (end : End) → EndsWith (IsReadFault name shelf) end → EndsWith (FileStops Refuses name shelf) end
-  file_unread end = ends_then (IsReadFault name shelf) (FileStops Refuses name shelf) end (λ s t is. unread is)
 
 -- ---- bytes that are refused
 
@@ -235,13 +230,3 @@ second_stops Refuses catalog_name name held told before middle after catalog res
     (FilesStop Refuses catalog_name name (reads held before after)) end
     (λ s t stop. by_file catalog offers
     (stops_later (Refuses catalog) name held told before middle after s t same later stop)) stops)
-
--- the query for which two files ask, where the shelf tells of the second one what it told before
-pub files_ask : (files : FileNames) (options : Options) (held : List ℕ → Option (List ℕ)) (told : Option (List ℕ))
-    (catalog : Catalog) (query : Query) → Offers (held files.catalog) catalog → told ≡ held files.query
-    → IsAskedAt catalog options told query → FilesAsk files options held query
-files_ask files options held told catalog query offers same asked = record {
-  catalog = catalog;
-  offers = offers;
-  asked = subst (λ h. IsAskedAt catalog options h query) same asked;
-}

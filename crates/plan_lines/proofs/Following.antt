@@ -10,12 +10,12 @@ use Rattle.plan_space.specs.Nodes.{Tree}
 use Rattle.plan_space.specs.declared.seen.Kid.{Kid}
 use Rattle.plan_tree.specs.declared.node.Node.{Node}
 use Rattle.plan_tree.specs.declared.plan.Plan.{Plan}
-use Rattle.plan_tree.specs.declared.plan.Plan.TheVariants.{Leaf, Over', Two'}
+use Rattle.plan_tree.specs.declared.plan.Plan.TheVariants.{Over', Two'}
 use Rattle.plan_tree.specs.declared.seen.Kids.TheVariants as below
 use Rattle.plan_lines.specs.Gathered.{IsKidOf}
 use Rattle.plan_lines.specs.Lines.{AddsLine, AddsLines}
 use Rattle.plan_lines.specs.Text.{indent, node_line, plan_lines}
-use Rattle.plan_lines.proofs.Gathered.{IsPreorder, Pointer, leaf_plan, over_plan, two_plan}
+use Rattle.plan_lines.proofs.Gathered.{IsPreorder, Pointer, over_plan, two_plan}
 
 module _ (q : Query) where
   -- the bytes of the lines of a plan whose root stands at this depth
@@ -30,13 +30,6 @@ module _ (q : Query) where
     of_two = λ kind left right. ap (λ (l : List ℕ). node_line q depth kind (kid_of q left ∷ kid_of q right ∷ []) ++ l)
         (concat-append (plan_lines q (suc depth) left) (plan_lines q (suc depth) right));
   }
-
-  -- the line of a plan that is one node
-  pub leaf_follows : (spaces : List ℕ) (plan : Plan) (node : Node) (before after : List ℕ) → plan ≡ Leaf node
-      → AddsLine q spaces node below.Nothing before after → AddsLines q spaces plan before after
-  leaf_follows spaces plan node before after of adds depth at =
-      leaf_plan q (node_line q depth) (bytes depth) (bytes (suc depth)) (root_first depth) plan node before after of
-      (adds depth at)
 
 module _ (q : Query) (spaces deeper : List ℕ) (deepens : deeper ≡ spaces ++ codes "  ") where
   -- the spaces of the level below

@@ -53,23 +53,6 @@ module _ (q : Query) where
       under kind spells.0 ∙ ap (λ (k : Kid). kid_under q kind (k ∷ second ∷ [])) (is s spells.1)
       ∙ ap (λ (k : Kid). kid_under q kind (kid_of q s ∷ k ∷ [])) (are t spells.2)
 
-  pub leaf_kid : (plan : Plan) (node : Node) (kid : Kid) → plan ≡ Leaf node → IsKidUnder q node below.Nothing kid
-      → IsKidOf q plan kid
-  leaf_kid plan node kid of under = subst (λ (p : Plan). IsKidOf q p kid) (sym of) (leaf_tree node kid under)
-
-  pub over_kid : (plan : Plan) (node : Node) (pointer : Pointer) (only : Plan) (one kid : Kid)
-      → plan ≡ Over' node pointer only → IsKidOf q only one → IsKidUnder q node (below.One one) kid
-      → IsKidOf q plan kid
-  over_kid plan node pointer only one kid of is under =
-      subst (λ (p : Plan). IsKidOf q p kid) (sym of) (over_tree node pointer only one kid is under)
-
-  pub two_kid : (plan : Plan) (node : Node) (pointer : Pointer) (left : Plan) (pointer' : Pointer) (right : Plan)
-      (first second kid : Kid) → plan ≡ Two' node pointer left pointer' right → IsKidOf q left first
-      → IsKidOf q right second → IsKidUnder q node (below.Two first second) kid → IsKidOf q plan kid
-  two_kid plan node pointer left pointer' right first second kid of is are under =
-      subst (λ (p : Plan). IsKidOf q p kid) (sym of)
-      (two_tree node pointer left pointer' right first second kid is are under)
-
 -- ---- what its nodes have
 
 -- all of a plan is its root's own before all of the plans below

@@ -58,9 +58,6 @@ module _ (q : Query) where
 
   -- ---- the way
 
-  pub way_begins : (bytes : List ℕ) → IsOnTheWay q bytes [] None bytes
-  way_begins bytes = record { in_place = tt; last_is = refl; begins = refl }
-
   pub way_goes_on : (bytes : List ℕ) (lines : List NodeLine) (last : Option ℕ) (rest : List ℕ) (line : NodeLine)
       (more : List ℕ) → IsOnTheWay q bytes lines last rest → IsNext q last rest line more
       → IsOnTheWay q bytes (lines ++ line ∷ []) (Some line.level) more

@@ -188,17 +188,6 @@ module _ (q : Query) (props : Props) (is_props : IsProps q props) (in_range : (g
         | inr other ↦ answered g r known_too fits (omega (arith, less, other))
       ]
 
--- where no group has the key, all below the next key are answered
-pub answered_key : (q : Query) (props : Props) → IsProps q props → (answers : KeptPlans) (key : ℕ)
-    → ((g : KeyParts) → IsGroup q g → key_number g ≡ key → ⊥)
-    → AreAnswered q answers (first_place key) → AreAnswered q answers (first_place (key + 1))
-answered_key q props is_props answers key none answered g r known fits less =
-    let small = request_small q g props r is_props fits in
-    elim (cases_eq (key_number g) key) [
-      | inl same ↦ absurd (none g known same)
-      | inr other ↦ answered g r known fits (omega (arith, less, small, other))
-    ]
-
 -- ---- all requests
 
 -- where all requests of groups with keys below a bound are answered, each of them is

@@ -92,12 +92,6 @@ module _ (q : Query) (group : KeyParts) where
         → word_of (expr_of e) ≡ slice_index words k → line_of q e mode ≡ Some line
         → HasMode e mode list
 
-  pub made_none : (words : List ℕ) → AreMade words 0 []
-  made_none words = record {
-    up_to = record { are = tt; rises = tt; below = tt };
-    complete = λ k less. absurd (omega (arith, less));
-  }
-
   module _ (words : List ℕ) (ascending : IsStrictlyIncreasing words) where
     next_base : (i : ℕ) → i < length words → FitsExpr (slice_index words i)
         → slice_index words i + 1 ≤ slice_index_or words (i + 1) EXPRS

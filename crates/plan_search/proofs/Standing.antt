@@ -41,16 +41,6 @@ module _ (answers : KeptPlans) (place : ℕ) (kept : Choice) (at : kept_at answe
       let equal : other ≡ kept = cc in
       subst (λ (c : Choice). IsNode c.node node) equal root.is_node
 
-  -- a tree with no places below it is a leaf
-  pub zero_below : kept.kids ≡ kids.Zero → (tree : Tree) → StandsAt answers place tree → (node : NodeKind)
-      × IsNode kept.node node × (tree ≡ leaf node)
-  zero_below is (leaf node) (other, root, also) = (node, same_node other node root, refl)
-  zero_below is (over node kid) (other, below, root, also, before, stands) = let never : kids.One below ≡ kids.Zero =
-      same_kids other node kids.Zero (kids.One below) root also is in cc
-  zero_below is (two node left right) (other, first, second, root, also, before, too, stands, stand) =
-      let never : kids.Two first second ≡ kids.Zero =
-      same_kids other node kids.Zero (kids.Two first second) root also is in cc
-
   -- one with a place below it is a node over what stands there
   pub one_below : (below : ℕ) → kept.kids ≡ kids.One below → (tree : Tree) → StandsAt answers place tree
       → (node : NodeKind) × (kid : Tree) × IsNode kept.node node × (tree ≡ over node kid) × (below < place)

@@ -222,10 +222,6 @@ module _ (q : Query) (group child : KeyParts) (kept : HasItemsOf q child group) 
   pub dist_asked_kept : (dist : Dist) → DistFits q group dist → DistFits q child dist
   dist_asked_kept dist = list_kept q child group kept (list_asked dist)
 
-  -- so does an order
-  pub order_asked_kept : (order : List ℕ) → OrderLiesIn q group order → OrderLiesIn q child order
-  order_asked_kept = order_passes q child group kept
-
 -- a request in no order fits where its distribution does
 pub plain_fits : (q : Query) (group : KeyParts) (dist : Dist) → DistFits q group dist → Fits q group (request dist 0)
 plain_fits q group dist fits = record {

@@ -1,5 +1,5 @@
 -- Laws of the bits of sets.
-use Rattle.std.proofs.Common.{◌≡◌, ℕ, ◌+◌, ◌-◌, ◌*◌, ◌/◌, ◌%◌, ◌^◌, ◌<◌, ◌≤◌, max, min, arith, ap, sym, ◌∙◌, Bool, true}
+use Rattle.std.proofs.Common.{◌≡◌, ℕ, ◌+◌, ◌-◌, ◌*◌, ◌/◌, ◌%◌, ◌^◌, ◌<◌, ◌≤◌, max, min, arith, ap, ◌∙◌}
 use Rattle.std.proofs.Common.{◌==◌}
 use Rattle.std.specs.Prelude.{bit_and, bit_or, bit_xor, ◌≢◌}
 use Rattle.std.specs.Int.{trailing_zeros, w32}

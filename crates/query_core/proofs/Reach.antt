@@ -1,6 +1,6 @@
 -- Laws of tables that reach each other by links.
 use Rattle.std.proofs.Common.{◌≡◌, ℕ, ◌+◌, ◌<◌, ◌≤◌, Bool, true, false, ◌&&◌, ◌||◌, ◌==◌, List, [], ◌∷◌, length, take}
-use Rattle.std.proofs.Common.{get_or, refl, ap, sym, subst, inl, inr, ◌∙◌, arith, IsTrue, ◌↔◌}
+use Rattle.std.proofs.Common.{get_or, refl, sym, subst, inl, inr, ◌∙◌, arith, IsTrue, ◌↔◌}
 use Rattle.std.proofs.lemmas.List.Folds.{list_any_more, list_any_at}
 use Rattle.std.proofs.lemmas.Bool.{cases_eq}
 use Rattle.std.proofs.Math.Bool.{or_comm}

@@ -33,15 +33,6 @@ below_after (Some b) v w old after = elim (cases_lt b.0 v) [
       omega (arith, more, after)
 ]
 
--- it is after the word before, or not
-after_or_not : (before : Option Expr) (v : ℕ) → IsAfter before v ⊎ (IsAfter before v → ⊥)
-after_or_not None v = inl refl
-after_or_not (Some b) v = elim (cases_lt b.0 v) [
-  | inl less ↦ inl less
-  | inr more ↦
-      inr (λ less. omega (arith, less, more))
-]
-
 module _ (q : Query) (group : KeyParts) where
   -- all candidates that aren't after the one before, and no others
   pub record AreUpTo (before : Option Expr) (words : List ℕ) : Type 0 where

@@ -1,15 +1,15 @@
 -- The sets of tables that have all tables of a list.
 use Rattle.std.proofs.Common.{◌≡◌, ℕ, suc, ◌+◌, ◌<◌, ◌≤◌, ◌-◌, ◌/◌, ◌↔◌, Bool, true, false, List, [], ◌∷◌, ◌++◌, length}
 use Rattle.std.proofs.Common.{take, drop, map, Option, Some, None, inl, inr, refl, sym, ap, ◌∙◌, subst, arith, IsTrue}
-use Rattle.std.proofs.Common.{eq-eqb, lit<}
+use Rattle.std.proofs.Common.{lit<}
 use Rattle.std.specs.Prelude.{◌==◌, slice_index_or, is_some, not, MatchOption}
-use Rattle.std.proofs.lemmas.Bool.{cases_eq, cases_lt, eqb-true}
+use Rattle.std.proofs.lemmas.Bool.{cases_eq, cases_lt}
 use Rattle.std.proofs.lemmas.List.{get_or_append_left, get_or_default, get_or-map, length-map, take_rest}
 use Rattle.std.proofs.Math.Seq.{get_or-append_seam}
 use Rattle.std.proofs.lemmas.Nat.Bits.{bit_at_above}
 use Rattle.std.proofs.lemmas.List.Elements.{All-nil, All-cons, All-head, All-tail, All-map}
 use Rattle.query_core.specs.Keys.{is_column_in, has_item}
-use Rattle.query_core.specs.Sets.{bit, Has, Adds, IsLeast}
+use Rattle.query_core.specs.Sets.{bit, Has, IsLeast}
 use Rattle.query_core.specs.declared.query.Query.{Query}
 use Rattle.query_core.specs.declared.words.KeyParts.{KeyParts}
 use Rattle.query_core.specs.declared.words.KeyParts.TheVariants.{Join}
@@ -79,23 +79,6 @@ over_more q lists found new n list here grown count inside is over each k within
       (subst (λ (t : Option ℕ). IsOver q (slice_index_or lists n []) t) (sym same)
       (subst (λ (l : List ℕ). IsOver q l here) listed over))
 ]
-
--- a set has the tables with one more where it has that one and the others
-pub covers_added : (set tables table new : ℕ) → Adds tables table new → HasTables set (Some new)
-    ↔ (IsTrue (bit set table == 1) × HasTables set (Some tables))
-covers_added set tables table new adds = (
-  λ all. (
-    eq-eqb (bit set table) 1 (all table adds.this),
-    λ t has. elim (cases_eq t table) [
-      | inl same ↦ subst (λ (s : ℕ). Has set s) (sym same) (all table adds.this)
-      | inr other ↦ all t (adds.others t other ∙ has)
-    ],
-  ),
-  λ both t has. elim (cases_eq t table) [
-    | inl same ↦ subst (λ (s : ℕ). Has set s) (sym same) (eqb-true (bit set table) 1 both.0)
-    | inr other ↦ both.1 t (sym (adds.others t other) ∙ has)
-  ],
-)
 
 -- a set has all tables of another where none is left without it
 pub covers_by : (tables set rest : ℕ) (least : Option ℕ) (test : Bool)

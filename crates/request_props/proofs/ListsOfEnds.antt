@@ -1,6 +1,6 @@
 -- Laws of lists of the sets of equalities that have one of some columns.
 use Rattle.std.proofs.Common.{◌≡◌, inl, inr, ℕ, ◌+◌, ◌<◌, List, [], ◌∷◌, ◌++◌, Option, None, Some, length}
-use Rattle.std.proofs.Common.{length-append, get_or, arith, ap, refl, sym, subst, ◌∙◌}
+use Rattle.std.proofs.Common.{length-append, get_or, arith, ap, sym, subst, ◌∙◌}
 use Rattle.std.specs.Prelude.{IfSome}
 use Rattle.std.proofs.lemmas.Bool.{cases_lt}
 use Rattle.std.proofs.lemmas.List.{get_or_append_left}
@@ -11,10 +11,6 @@ use Rattle.request_props.specs.Ends.{AreEnds, AreEndsOf, HasColumn}
 use Rattle.request_props.specs.declared.tables.ends.EqualityEnds.{EqualityEnds}
 
 module _ (q : Query) (IsOneAt : ℕ → ℕ → Type 0) where
-  -- sets at no place
-  pub no_ends : AreEnds q IsOneAt 0 []
-  no_ends = record { count = refl; each = λ k d within. absurd (omega (arith, within)) }
-
   -- and of one more
   pub ends_push : (list new : List EqualityEnds) (n : ℕ) (ends : EqualityEnds) → new ≡ list ++ ends ∷ []
       → AreEnds q IsOneAt n list → AreEndsOf q (IsOneAt n) ends

@@ -31,11 +31,6 @@ pub order_at : (props : Props) (number place : ℕ) (d : List OrderKey) → numb
     → elements_of (slice_index_or props.orders place d) ≡ order_among (map elements_of props.orders) number
 order_at props number place d next within = rw next (elements_at props.orders place d (omega (arith, next, within)))
 
--- the same, of the elements
-pub order_behind : (orders : List (List ℕ)) (number place : ℕ) → number ≡ suc place
-    → order_among orders number ≡ slice_index_or orders place []
-order_behind orders number place next = rw next refl
-
 itself_unless_empty : (list : List ℕ) → (list ≡ []) ⊎ Contains (unless_empty list) list
 itself_unless_empty [] = inl refl
 itself_unless_empty (first ∷ others) = inr (0, omega arith, refl)

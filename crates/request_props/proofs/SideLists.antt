@@ -51,15 +51,6 @@ below_all : (xs : List ℕ) (bound x : ℕ) → All (λ n. n < bound) xs → Con
 below_all xs bound x all (k, within, is) = subst (λ n. n < bound) is (all k x within)
 
 module _ (q : Query) (set : ℕ) where
-  -- no key is below 0
-  pub no_sides : AreSidesBelow q set 0 []
-  no_sides = record {
-    ascending = λ k within. absurd (omega (arith, within));
-    sound = λ k d within. absurd (omega (arith, within));
-    below = λ k d within. absurd (omega (arith, within));
-    complete = λ a b falls less. absurd (omega (arith, less));
-  }
-
   -- no left side has a key from the one bound on and below the other
   pub sides_further : (bound other : ℕ) (found : List Sides) → bound ≤ other
       → ((a b : ℕ) → FallsInto q set a b → key_number (top_of q a) < other → key_number (top_of q a) < bound)

@@ -62,9 +62,6 @@ class_says byte = by_blank (is_blank byte) refl
 
 -- ---- and the class that a byte has
 
-blank_small : (byte : ℕ) → is_blank byte ≡ true → byte ≤ 32
-blank_small byte h = grind (arith, nat_tests)
-
 letter_large : (byte : ℕ) → begins_name byte ≡ true → 65 ≤ byte
 letter_large byte h = grind (arith, nat_tests)
 

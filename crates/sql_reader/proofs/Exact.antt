@@ -99,10 +99,6 @@ Never w x = ⊥
 abbrev pub NoToken : Token → Type 0
 NoToken t = ⊥
 
-pub BeginAlike-refl : (tokens : List Token) → BeginAlike tokens tokens
-BeginAlike-refl [] = tt
-BeginAlike-refl (t ∷ ts) = refl
-
 -- lists that begin alike still do behind the same front
 pub BeginAlike-append : (front others rest : List Token) → BeginAlike others rest
     → BeginAlike (front ++ others) (front ++ rest)

@@ -15,7 +15,7 @@ use Rattle.plan_tree.specs.declared.plan.Found.{Found}
 use Rattle.plan_tree.specs.declared.plan.Found.TheVariants as founds
 use Rattle.plan_tree.specs.declared.plan.Plan.{Plan}
 use Rattle.stage_plan.specs.Stages.{query_in, IsEnough, IsFullIn, IsPlanIn, Stops}
-use Rattle.stage_plan.specs.StagedRuns.{Answers, HasCost, HasRoom, HaveNoPlan, IsFirstLeast, IsPlanAt, IsStagedRun}
+use Rattle.stage_plan.specs.StagedRuns.{Answers, HasCost, HasRoom, IsFirstLeast, IsStagedRun}
 use Rattle.stage_plan.specs.StagedRuns.{StagedAnswer, Tells, planned, unplanned, too_many}
 use Rattle.stage_plan.specs.StagedRuns as told
 use Rattle.stage_plan.specs.SoFar.{HaveRun, IsFoundIn, IsLeastOf, IsNext, IsPlanOf, Keeps, staged_of}

@@ -4,7 +4,7 @@ use Rattle.std.proofs.Common.{ap, ◌∙◌, subst, arith, append_assoc, inl, in
 use Rattle.std.specs.List.{All}
 use Rattle.std.proofs.lemmas.Bool.{cases_lt}
 use Rattle.std.proofs.lemmas.List.{append-nil, reverse-append}
-use Rattle.std.proofs.lemmas.List.Elements.{All-nil, All-cons}
+use Rattle.std.proofs.lemmas.List.Elements.{All-cons}
 use Rattle.query_core.specs.declared.query.Query.{Query}
 use Rattle.plan_space.specs.Nodes.{Tree}
 use Rattle.plan_tree.specs.Spells.{Spells}
@@ -63,14 +63,6 @@ pub record AreMade (q : Query) (lines rest : List NodeLine) (items : List Grown)
   pub parts : lines ≡ rest ++ done
   pub plans : AreOf q (reverse items) done
   pub fits : All (LineFits q) (tails done)
-
-pub made_start : (q : Query) (lines : List NodeLine) (items : List Grown) → items ≡ [] → AreMade q lines lines items
-made_start q lines items none = record {
-  done = [];
-  parts = sym (append-nil lines);
-  plans = subst (λ is. AreOf q (reverse is) []) (sym none) refl;
-  fits = All-nil (LineFits q);
-}
 
 module _ (q : Query) (one : OutlinesAreOne q) (lines : List NodeLine)
     (in_place : AreInPlace q None lines) where

@@ -1,9 +1,9 @@
 -- What a probe shows of a set of words, and that a word stored where it ends keeps the set.
 use Rattle.std.proofs.Common.{◌≡◌, ℕ, ◌<◌, ◌≢◌, ◌∙◌, sym, ap, subst, arith}
-use Rattle.word_table.specs.Probing.{home_of, steps_to, HasOther, HasNoGap, PassesOthers, Lacks, IsWordSet, PutsAt}
+use Rattle.word_table.specs.Probing.{home_of, steps_to, HasNoGap, PassesOthers, Lacks, IsWordSet, PutsAt}
 use Rattle.std.proofs.Math.Logic.{⊎_elim}
 use Rattle.std.proofs.lemmas.Bool.{cases_order, cases_eq}
-use Rattle.word_table.proofs.Steps.{steps_to_same, all_passed_round}
+use Rattle.word_table.proofs.Steps.{steps_to_same}
 
 -- a word's home is below the capacity
 pub home_of_below : (word capacity : ℕ) → 0 < capacity → home_of word capacity < capacity
@@ -35,22 +35,6 @@ lacks_at_empty capacity cell word place set is_word p empty passes q in_range he
     (λ behind. subst (λ w. HasNoGap capacity cell w q) here
     (set.no_gap q in_range taken) place p behind empty))
     (cases_order (steps_to capacity home q) (steps_to capacity home place))
-
--- a probe that went round shows the word in no cell
-pub lacks_once_round : (capacity : ℕ) (cell : ℕ → ℕ) (word : ℕ) → 0 < capacity
-    → PassesOthers capacity cell word capacity
-    → Lacks capacity cell word
-lacks_once_round capacity cell word some passes q in_range =
-    (all_passed_round capacity (home_of word capacity) (HasOther cell word) (home_of_below word capacity some) passes
-    q in_range).1
-
--- a probe that went round shows every cell taken
-pub taken_once_round : (capacity : ℕ) (cell : ℕ → ℕ) (word : ℕ) → 0 < capacity
-    → PassesOthers capacity cell word capacity → (place : ℕ)
-    → place < capacity → cell place ≢ 0
-taken_once_round capacity cell word some passes q in_range =
-    (all_passed_round capacity (home_of word capacity) (HasOther cell word) (home_of_below word capacity some) passes
-    q in_range).0
 
 -- a word stored in the empty cell to which its probe came leaves a set of words
 pub put_keeps_set : (capacity : ℕ) (old new : ℕ → ℕ) (word place : ℕ) → IsWordSet capacity old → word ≢ 0

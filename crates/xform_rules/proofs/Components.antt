@@ -1,22 +1,17 @@
 -- Components of what a part leaves of a connected set: each may be taken away, and each is linked to the part.
-use Rattle.std.proofs.Common.{◌≡◌, ℕ, ◌-◌, List, subst, arith, IsTrue, ◌⊎◌, inl, inr}
+use Rattle.std.proofs.Common.{◌≡◌, ℕ, ◌-◌, List, arith, IsTrue, ◌⊎◌, inl, inr}
 use Rattle.std.specs.Prelude.{bit_and, bit_xor}
 use Rattle.query_core.specs.Sets.{bit, Has}
 use Rattle.query_core.specs.Connected.{are_joined, Reaches, here, along, IsConnected, AreLinked, IsReached}
 use Rattle.query_core.specs.declared.predicate.Link.{Link}
 use Rattle.query_core.proofs.Bits.{bit-below, bit-difference}
-use Rattle.query_core.proofs.Reach.{reached_in, Reaches-then, Reaches-turned, joined_turned}
+use Rattle.query_core.proofs.Reach.{reached_in, Reaches-then, Reaches-turned}
 use Rattle.query_core.proofs.Unions.{reaches_in_more}
 use Rattle.query_core.proofs.Whole.{bit_cases}
 
 -- the tables of the one set that are not in the other
 abbrev pub less_of : ℕ → ℕ → ℕ
 less_of set part = bit_xor set (bit_and set part)
-
--- two sets that a link joins are linked the other way round too
-pub linked_turned : (links : List Link) (a b : ℕ) → AreLinked links a b → AreLinked links b a
-linked_turned links a b (t, (in_b, (s, in_a, joined))) =
-    (s, (in_a, (t, in_b, subst (λ x. IsTrue x) (joined_turned links s t) joined)))
 
 -- larger sets are linked where smaller ones are
 pub linked_in_more : (links : List Link) (a b c d : ℕ) → ((t : ℕ) → Has a t → Has c t) → ((t : ℕ) → Has b t → Has d t)

@@ -12,7 +12,7 @@ use Rattle.std.specs.List.{count_by, fold}
 use Rattle.std.specs.Option.{option_map_or}
 use Rattle.std.proofs.lemmas.Bool.{cases_Bool, false≢true, and_parts, leb-true, ltb-true, lt-ltb, cases_order}
 use Rattle.std.proofs.lemmas.List.{take-take, length-take}
-use Rattle.std.proofs.lemmas.Option.{slice_get-get_or, slice_get_read, slice_get_within}
+use Rattle.std.proofs.lemmas.Option.{slice_get_read, slice_get_within}
 use Rattle.query_core.specs.declared.query.Query.{Query}
 use Rattle.query_core.specs.declared.words.KeyParts.TheVariants as groups
 use Rattle.query_core.specs.declared.words.KeyParts.{KeyParts}
@@ -30,15 +30,6 @@ passes_at p (x ∷ xs) zero d passes = (omega arith, passes)
 passes_at p (x ∷ xs) (suc i) d passes = let later = passes_at p xs i d passes in (omega (arith, later.0), later.1)
 
 module _ (q : Query) (t : ℕ) where
-  -- an index that is usable, with the count of those before it
-  pub nth_here : (indexes : List (List ℕ)) (i n : ℕ) (index : List ℕ) → i < length indexes
-      → index ≡ get_or indexes i index
-      → is_usable q t index ≡ true → n ≡ count_by (is_usable q t) (take i indexes) → IsNthUsable q t indexes n i
-  nth_here indexes i n index within here usable counted = record {
-    usable = rw (slice_get-get_or indexes i index within) (subst (λ x. IsTrue (is_usable q t x)) here usable);
-    before = sym counted;
-  }
-
   -- a usable index of the list is counted with those before it
   pub counted_with : (indexes : List (List ℕ)) (i : ℕ)
       → IsTrue (option_map_or (is_usable q t) (slice_get indexes i) false)

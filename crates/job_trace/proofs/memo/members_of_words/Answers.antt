@@ -1,6 +1,5 @@
-use Rattle.std.proofs.Common.{◌≡◌, List, sym, subst, ◌∙◌}
+use Rattle.std.proofs.Common.{◌≡◌, sym, subst, ◌∙◌}
 use Rattle.std.proofs.lemmas.Result.{IfOk-weaker}
-use Rattle.query_core.specs.declared.expressions.ExprParts.{ExprParts}
 use Rattle.goal_children.specs.GroupMembers.{AreOfWords}
 use Rattle.job_trace.specs.Memo.{AreMembers}
 use Rattle.job_trace.proofs.Known.{members_one}
