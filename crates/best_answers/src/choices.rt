@@ -33,7 +33,7 @@ pub fn best_in_mode(
     query: &Query,
     expr: PhysicalExpr,
     rows: ExprRows,
-    line: Line,
+    line: &Line,
     wanted: Request,
     alt: Alt,
     below: (Option<Best>, Option<Best>),
@@ -41,9 +41,9 @@ pub fn best_in_mode(
     requires member { IsMember query.now (expr_of expr) }
     requires rows { AreRowsOf query.now expr rows }
     requires fits { Fits query.now expr.group wanted }
-    requires alternative { (mode : ℕ) × IsAltBy query.now expr wanted mode alt line }
+    requires alternative { (mode : ℕ) × IsAltBy query.now expr wanted mode alt line.now }
     requires below { AreBestBelow query.now alt below }
-    ensures { (mode : ℕ) → IsAltBy query.now expr wanted mode alt line →
+    ensures { (mode : ℕ) → IsAltBy query.now expr wanted mode alt line.now →
         IsBest query.now expr.group wanted (one_node (Native expr mode)) result }
 {
     // For the proof: what is asked fits, and what is best of it costs little.

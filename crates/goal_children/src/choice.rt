@@ -17,7 +17,9 @@ use crate::finding::{goal_from, sooner};
 use crate::memo::Memo;
 use goal_space::GoalKind;
 use plan_space::{Line, modes_are_few, what_is_asked_fits};
-use plan_tree::{Enforced, alternative_at, enforcer, modes_to_try, next_alternative};
+use plan_tree::{
+    Enforced, alternative_at, enforcer, modes_to_try, next_alternative, word_of_candidate,
+};
 use query_core::{Children, Key, KeyParts, PhysicalExpr, candidates_are_known, groups_are_known};
 use request_props::Request;
 
@@ -135,7 +137,8 @@ pub fn asked_in_mode(
     // For the proof: what is asked of children has numbers, and an expression has few modes.
     what_is_asked_fits();
     modes_are_few();
-    let alt = alternative_at(memo.query, e, wanted, mode, line);
+    let word = word_of_candidate(memo.query, e);
+    let alt = alternative_at(memo.query, e, word, wanted, mode, &line);
     (asked_of(alt.left), asked_of(alt.right))
 }
 

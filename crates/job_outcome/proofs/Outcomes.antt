@@ -1,5 +1,6 @@
 -- The outcome by its three cases.
-use Rattle.std.proofs.Common.{◌≡◌, ℕ, ◌<◌, nat_eq, true, false, List, ◌∷◌, None, Some, refl, sym, subst, arith, leb-true, ne_eqb}
+use Rattle.std.proofs.Common.{◌≡◌, ℕ, ◌<◌, nat_eq, true, false, List, ◌∷◌, None, Some, refl, sym, subst, arith}
+use Rattle.std.proofs.Common.{leb-true, ne_eqb}
 use Rattle.std.proofs.Common.{◌∙◌}
 use Rattle.std.proofs.lemmas.Bool.{false_from_ne_true}
 use Rattle.std.proofs.lemmas.List.Elements.{All-cons, recursion_from_All}

@@ -1,6 +1,6 @@
 -- What the turn of a goal that chooses the least plan for a request finds.
 use Rattle.std.specs.Prelude.{◌≡◌, ℕ, ◌-◌, ◌^◌, ◌<◌, ◌≤◌, Option, None, Some, IfSome, Bool, true, false}
-use Rattle.query_core.specs.Expressions.{expr_of, physical_children}
+use Rattle.query_core.specs.Expressions.{expr_of, physical_children, HasWord}
 use Rattle.query_core.specs.Keys.{NamesGroup}
 use Rattle.query_core.specs.declared.query.Query.{Query}
 use Rattle.query_core.specs.declared.words.Key.{Key}
@@ -106,21 +106,22 @@ IsProgressOf right None result = result ≡ progress.Full
 
 -- ---- the modes of an expression
 
--- the expression is a member of a group that the request fits; its line in the mode, and the rows of its groups
+-- the expression is a member of a group that the request fits; its word, its line in the mode, and the rows of its groups
 pub record IsWantedNative (q : Query) (native : WantedNative) : Type 0 where
   pub member : IsMember q (expr_of native.expr)
   pub fits : Fits q native.expr.group native.wanted
   pub rows : AreRowsOf q native.expr native.rows
-  pub line : line_of q native.expr native.mode ≡ Some native.line
+  pub word : HasWord native.word.0 (expr_of native.expr)
+  pub line : line_of q native.expr native.mode ≡ Some native.line.now
   pub few : native.mode < node_modes
 
 -- the mode is there for the request, with that line
 abbrev pub HasAlternative : Query → WantedNative → Type 0
-HasAlternative q native = IsAlternative q native.expr native.wanted native.mode native.line
+HasAlternative q native = IsAlternative q native.expr native.wanted native.mode native.line.now
 
 -- this is what the expression asks in the mode
 abbrev pub IsAltOf : Query → WantedNative → Alt → Type 0
-IsAltOf q native alt = IsAltBy q native.expr native.wanted native.mode alt native.line
+IsAltOf q native alt = IsAltBy q native.expr native.wanted native.mode alt native.line.now
 
 -- the goal of what is asked, if something is, is a child of the goal with the word
 abbrev pub IsAskedByChild : Query → ℕ → Option (Key × Request) → Type 0

@@ -10,6 +10,7 @@ use crate::board_search::BoardSearch;
 use crate::job_turn::JobTurn;
 use crate::known_best::{KnownBest, await_best, put_child};
 use crate::laws::words_are_known;
+use crate::words::request_goal;
 use best_answers::{answers_are_best, best_of_enforcer};
 use goal_board::Hints;
 use goal_space::{GoalKind, goals_are_known};
@@ -68,12 +69,14 @@ fn put_enforcer<'q, H: Hints>(
     ensures at_work { StaysAtWork search.now turn.old turn.new (H.capacity turn.new.hints.now) }
     ensures puts { TurnPutsChildren search.now turn.old result turn.new }
 {
-    // For the proof: the request fits the group.
+    // For the proof: the request fits the group, and a child of a goal has a word.
     goals_are_known();
+    words_are_known();
     match enforcer_for(search.query, search.props, group, wanted, place) {
         Some(enforced) => {
             let child = GoalKind::Opt(group, enforced.below);
-            put_child(search, turn, child)
+            let word = request_goal(group, enforced.below);
+            put_child(search, turn, child, word)
         }
         None => true,
     }
@@ -99,7 +102,7 @@ fn await_enforcer<'q, H: Hints>(
     match enforcer_for(search.query, search.props, group, wanted, place) {
         Some(enforced) => {
             let child = GoalKind::Opt(group, enforced.below);
-            let word = child.word();
+            let word = request_goal(group, enforced.below);
             let found = await_best(search, turn, child, word)?;
             match found {
                 KnownBest::Known(below) => {

@@ -67,20 +67,22 @@ pub(crate) fn await_best<'q, H: Hints>(
     }
 }
 
-/// Puts in a child of the goal. False where it found every cell taken.
+/// Puts in a child of the goal, which has this word. False where it found every cell taken.
 pub(crate) fn put_child<'q, H: Hints>(
     search: &BoardSearch<'_, 'q>,
     turn: &mut JobTurn<'_, 'q, H>,
-    child: GoalKind,
+    _child: GoalKind,
+    word: Goal,
 ) -> bool
     requires at_work { IsAtWork search.now turn.old (H.capacity turn.old.hints.now) }
-    requires child { IsTurnChild search.now turn.old child }
+    requires child { IsTurnChild search.now turn.old _child }
+    requires word { goal_word _child ≡ word.0 }
     ensures at_work { StaysAtWork search.now turn.old turn.new (H.capacity turn.new.hints.now) }
     ensures puts { TurnPutsChildren search.now turn.old result turn.new }
 {
     // For the proof: a child of a goal has a word.
     words_are_known();
-    match put_goal(search.board, turn.seat, child.word().0, turn.hints) {
+    match put_goal(search.board, turn.seat, word.0, turn.hints) {
         Inserted::Full => false,
         _ => true,
     }

@@ -17,19 +17,22 @@ use board_moves::Progress;
 use goal_board::Hints;
 use goal_space::{GoalKind, goals_are_known};
 use plan_space::Line;
-use plan_tree::{Alt, ExprRows, alternative_at, expr_rows, modes_to_try, next_alternative};
-use query_core::{Key, PhysicalExpr, groups_are_known};
+use plan_tree::{
+    Alt, ExprRows, alternative_at, expr_rows, modes_to_try, next_alternative, word_of_candidate,
+};
+use query_core::{Expr, Key, PhysicalExpr, groups_are_known};
 use request_props::Request;
 use xform_rules::members_are_candidates;
 
-/// An expression in a mode, for a request, with its line there and the rows of its groups.
+/// An expression in a mode, for a request, with its word, its line there and the rows of its groups.
 #[derive(Clone, Copy)]
-pub(crate) struct WantedNative {
+pub(crate) struct WantedNative<'l> {
     pub(crate) expr: PhysicalExpr,
+    pub(crate) word: Expr,
     pub(crate) wanted: Request,
     pub(crate) rows: ExprRows,
     pub(crate) mode: u32,
-    pub(crate) line: Line,
+    pub(crate) line: &'l Line,
 }
 
 /// The least plan for the request with the expression at its root is known once those are that its
@@ -68,6 +71,7 @@ fn best_mode<'q, H: Hints>(
     goals_are_known();
     members_are_candidates();
     answers_are_best();
+    let word = word_of_candidate(search.query, expr);
     let rows = expr_rows(search.query, search.props, expr);
     let mut known_best = KnownBest::Known(None);
     let modes = modes_to_try(search.query, search.props, expr, wanted);
@@ -82,10 +86,11 @@ fn best_mode<'q, H: Hints>(
     ) {
         let native = WantedNative {
             expr,
+            word,
             wanted,
             rows,
             mode,
-            line,
+            line: &line,
         };
         let other = await_mode(search, turn, &native)?;
         known_best = known_best.or(other);
@@ -98,7 +103,7 @@ fn best_mode<'q, H: Hints>(
 fn await_mode<'q, H: Hints>(
     search: &BoardSearch<'_, 'q>,
     turn: &mut JobTurn<'_, 'q, H>,
-    native: &WantedNative,
+    native: &WantedNative<'_>,
 ) -> Option<KnownBest>
     requires at_work { IsAtWork search.now turn.old (H.capacity turn.old.hints.now) }
     requires native { IsWantedNative search.now.query.now native.now }
@@ -112,6 +117,7 @@ fn await_mode<'q, H: Hints>(
     let alt = alternative_at(
         search.query,
         native.expr,
+        native.word,
         native.wanted,
         native.mode,
         native.line,
@@ -123,7 +129,7 @@ fn await_mode<'q, H: Hints>(
 fn await_alternative<'q, H: Hints>(
     search: &BoardSearch<'_, 'q>,
     turn: &mut JobTurn<'_, 'q, H>,
-    native: &WantedNative,
+    native: &WantedNative<'_>,
     alt: Alt,
 ) -> Option<KnownBest>
     requires at_work { IsAtWork search.now turn.old (H.capacity turn.old.hints.now) }

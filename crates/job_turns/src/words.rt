@@ -6,22 +6,32 @@ ghost use Rattle.query_core.specs.Keys.{key_number};
 ghost use Rattle.query_core.specs.Goals.{FitsExpr, FitsKey};
 ghost use Rattle.query_core.specs.Expressions.{expr_of, word_of};
 ghost use Rattle.query_core.specs.declared.expressions.PhysicalExpr.{PhysicalExpr};
-ghost use Rattle.query_core.specs.declared.words.KeyParts.{KeyParts};
+ghost use Rattle.query_core.specs.declared.words.KeyParts.{KeyParts as AnyKeyParts};
 ghost use Rattle.request_props.specs.Requests.{IsRequestInRange};
-ghost use Rattle.goal_space.specs.Words.{goal_word};
+ghost use Rattle.goal_space.specs.Words.{goal_word, IsGoalInRange};
 ghost use Rattle.goal_space.specs.declared.goals.GoalKind.TheVariants.{Opt, OptE};
 
-use query_core::{Expr, Goal, GoalParts, Key};
+use query_core::{Expr, Goal, GoalParts, Key, KeyParts, groups_are_known};
 use request_props::{Request, code};
 
 /// The word of the goal of the group of this key for the request.
 pub(crate) fn group_goal(key: Key, wanted: Request) -> Goal
     requires key { FitsKey key.0 }
     requires wanted { IsRequestInRange wanted }
-    ensures { (group : KeyParts) → key.0 ≡ key_number group →
+    ensures { (group : AnyKeyParts) → key.0 ≡ key_number group →
         goal_word (Opt group wanted) ≡ result.0 }
 {
     Goal::make(GoalParts::Opt(key, code(wanted)))
+}
+
+/// The same of the group itself.
+pub(crate) fn request_goal(group: KeyParts, wanted: Request) -> Goal
+    requires { IsGoalInRange (Opt group wanted) }
+    ensures number { result.0 ≡ goal_word (Opt group wanted) }
+{
+    // For the proof: a group has a small key.
+    groups_are_known();
+    group_goal(Key::make(group), wanted)
 }
 
 /// The word of the goal of the expression of this word for the request.

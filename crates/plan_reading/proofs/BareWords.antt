@@ -1,5 +1,6 @@
 -- No name, number, order or list has an equals sign or a newline in it.
-use Rattle.std.proofs.Common.{◌≡◌, ℕ, zero, suc, ◌-◌, ◌/◌, ◌%◌, ◌<◌, Bool, true, false, List, [], ◌∷◌, ◌++◌, Option, Some, None, refl}
+use Rattle.std.proofs.Common.{◌≡◌, ℕ, zero, suc, ◌-◌, ◌/◌, ◌%◌, ◌<◌, Bool, true, false, List, [], ◌∷◌, ◌++◌, Option}
+use Rattle.std.proofs.Common.{Some, None, refl}
 use Rattle.std.proofs.Common.{arith, decimal, length}
 use Rattle.std.specs.Prelude.{codes, slice_get, ◌==◌, flat_map, if◌then◌else◌}
 use Rattle.std.specs.Char.{is_ascii_digit}

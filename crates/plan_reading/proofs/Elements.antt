@@ -1,5 +1,6 @@
 -- The texts of hashed lists and of orders are those of one list.
-use Rattle.std.proofs.Common.{◌≡◌, ℕ, ◌/◌, ◌%◌, ◌<◌, Bool, true, false, List, [], ◌∷◌, ◌++◌, length, refl, sym, ap, ◌∙◌, subst}
+use Rattle.std.proofs.Common.{◌≡◌, ℕ, ◌/◌, ◌%◌, ◌<◌, Bool, true, false, List, [], ◌∷◌, ◌++◌, length, refl, sym, ap}
+use Rattle.std.proofs.Common.{◌∙◌, subst}
 use Rattle.std.proofs.Common.{append_assoc, inl, inr, arith, Some}
 use Rattle.std.specs.Prelude.{codes, slice_get, ◌==◌, if◌then◌else◌}
 use Rattle.std.proofs.lemmas.Bool.{eqb-true, eqb-false}
@@ -10,7 +11,8 @@ use Rattle.query_text.specs.Columns.{item_text, column_text, sorted_text}
 use Rattle.query_text.specs.Lists.{element_text, order_text, list_text}
 use Rattle.plan_reading.proofs.Places.{there}
 use Rattle.plan_reading.proofs.Columns.{IsFilled, columns_one, item_text_filled}
-use Rattle.plan_reading.proofs.Sorted.{IsEnd, IsSorted, sorted_one, end_of_name, IsBehind, end_of_behind, sorted_text_filled}
+use Rattle.plan_reading.proofs.Sorted.{IsEnd, IsSorted, sorted_one, end_of_name, IsBehind, end_of_behind}
+use Rattle.plan_reading.proofs.Sorted.{sorted_text_filled}
 use Rattle.plan_reading.proofs.Joined.{IsShut, Each, joined_one}
 
 -- ---- hashed lists

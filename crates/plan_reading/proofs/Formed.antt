@@ -15,7 +15,8 @@ use Rattle.plan_space.specs.Modes.{mode_at}
 use Rattle.request_props.specs.declared.given.GivenDist.{GivenDist}
 use Rattle.request_props.specs.declared.given.GivenOrder.{GivenOrder}
 use Rattle.plan_space.specs.Lines.{only_line, single_line, hash_line, merge_line, loop_line, agg_line, in_order}
-use Rattle.plan_space.specs.Lines.{dists_of_table, table_line, join_line, way_line, order_read, kept_line, grouped_order}
+use Rattle.plan_space.specs.Lines.{dists_of_table, table_line, join_line, way_line, order_read, kept_line}
+use Rattle.plan_space.specs.Lines.{grouped_order}
 use Rattle.plan_space.specs.Ways.{way_of}
 use Rattle.plan_space.specs.declared.lines.Line.TheVariants.{Above}
 use Rattle.plan_space.specs.declared.lines.LeftDist.TheVariants as left_dists

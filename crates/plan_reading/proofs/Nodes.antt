@@ -21,7 +21,8 @@ use Rattle.plan_reading.specs.Named.{named_text, HasForm, IsOperatorOf, HasTable
 use Rattle.plan_reading.specs.declared.named.Named.{Named}
 use Rattle.plan_reading.specs.declared.named.Named.TheVariants as named
 use Rattle.plan_reading.proofs.Behind.{behind_words, operator_is}
-use Rattle.plan_reading.proofs.Marks.{enforcer_kind, kind_in, enforcer_read, enforcer_large, way_sort, way_kind, way_index}
+use Rattle.plan_reading.proofs.Marks.{enforcer_kind, kind_in, enforcer_read, enforcer_large, way_sort, way_kind}
+use Rattle.plan_reading.proofs.Marks.{way_index}
 use Rattle.plan_reading.proofs.OneMode.{agg_one, hash_one, lists_one, loop_one, merge_one, only_one, orders_one}
 use Rattle.plan_reading.proofs.OneRead.{indexes_one, reads_one, tables_one}
 use Rattle.plan_reading.proofs.OperatorRows.{is_name, number_small, alike, first_same}

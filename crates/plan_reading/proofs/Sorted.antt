@@ -10,7 +10,8 @@ use Rattle.query_core.specs.declared.table.Item.{Item}
 use Rattle.query_text.specs.Columns.{table_text, item_text, sorted_text, aggregate_name_at, name_text}
 use Rattle.plan_reading.proofs.Fronts.{EndsFront}
 use Rattle.plan_reading.proofs.Cuts.{cut_once}
-use Rattle.plan_reading.proofs.Columns.{IsFilled, name_continues, name_filled, table_named, item_placed, dotted, columns_one, item_text_filled}
+use Rattle.plan_reading.proofs.Columns.{IsFilled, name_continues, name_filled, table_named, item_placed, dotted}
+use Rattle.plan_reading.proofs.Columns.{columns_one, item_text_filled}
 use Rattle.plan_reading.proofs.AggregateNames.{agg_named, agg_one}
 
 -- the order names a column, or an aggregate with a name

@@ -6,7 +6,8 @@ use Rattle.std.proofs.lemmas.List.{append-nil}
 use Rattle.query_core.specs.declared.query.Query.{Query}
 use Rattle.plan_reading.specs.Lines.{line_text}
 use Rattle.plan_reading.specs.Reading.{IsCutAt, IsLine, NoLine}
-use Rattle.plan_reading.specs.Formed.{MayFollow, Follows, AreInPlace, last_level, lines_text, AreLines, IsNext, HasNoNext}
+use Rattle.plan_reading.specs.Formed.{MayFollow, Follows, AreInPlace, last_level, lines_text, AreLines, IsNext}
+use Rattle.plan_reading.specs.Formed.{HasNoNext}
 use Rattle.plan_reading.specs.Formed.{LacksNode}
 use Rattle.plan_reading.specs.declared.line.NodeLine.{NodeLine}
 use Rattle.plan_reading.proofs.Bare.{named_bare}

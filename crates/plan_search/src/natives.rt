@@ -91,7 +91,7 @@ fn choice_of(search: Search<'_>, p: &NativeNode, wanted: Request, alt: Alt) -> O
     costs_fit();
     match plans_below(search.answers, alt.left, alt.right) {
         Some(below) => {
-            let local = native_cost_by(search.query, p.expr, p.line, p.rows, wanted);
+            let local = native_cost_by(search.query, p.expr, &p.line, p.rows, wanted);
             Some(below.under(alt.node, local))
         }
         None => None,

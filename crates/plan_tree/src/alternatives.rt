@@ -21,9 +21,10 @@ use crate::lines::line_of;
 use crate::node::Node;
 use crate::serving::{asked_left, asked_right, left_child, right_child, serves};
 use crate::walks::next_line;
-use plan_space::{Line, NodeKind, modes_are_few};
+use plan_space::{Line, modes_are_few};
 use query_core::{
-    Children, Expr, Key, KeyParts, PhysicalExpr, Query, candidates_are_known, groups_are_known,
+    Children, Expr, Key, KeyParts, PhysicalExpr, Query, candidates_are_known, expressions_are_one,
+    groups_are_known,
 };
 use request_props::{Props, Request};
 
@@ -70,27 +71,42 @@ pub fn alternative_by(
     ensures { IsAltIn query.now expr request mode result }
 {
     if serves(query, props, line, expr.children(), request) {
-        Some(alternative_at(query, expr, request, mode, line))
+        let word = word_of_candidate(query, expr);
+        Some(alternative_at(query, expr, word, request, mode, &line))
     } else {
         None
     }
 }
 
-/// The expression in a mode that is there for the request, by its line.
+/// The word of an expression that a group can hold.
+pub fn word_of_candidate(_query: &Query, expr: PhysicalExpr) -> Expr
+    requires { IsCandidate _query.now (expr_of expr) }
+    ensures { HasWord result.0 (expr_of expr) }
+{
+    // For the proof: a candidate has a word.
+    candidates_are_known();
+    Expr::make(expr.parts())
+}
+
+/// The expression of this word in a mode that is there for the request, by its line.
 pub fn alternative_at(
     query: &Query,
     expr: PhysicalExpr,
+    word: Expr,
     request: Request,
     mode: u32,
-    line: Line,
+    line: &Line,
 ) -> Alt
     requires candidate { IsCandidate query.now (expr_of expr) }
+    requires word { HasWord word.0 (expr_of expr) }
     requires few { mode < node_modes }
-    requires alternative { IsAlternative query.now expr request mode line }
-    ensures { IsAltBy query.now expr request mode result line }
+    requires alternative { IsAlternative query.now expr request mode line.now }
+    ensures { IsAltBy query.now expr request mode result line.now }
 {
+    // For the proof: the expression's word fits, and its children are groups of the query.
+    expressions_are_one();
     candidates_are_known();
-    let node = Node::make(NodeKind::Native(expr, mode));
+    let node = Node::native(word, mode);
     alt_over(query, node, line, expr.children(), request)
 }
 
@@ -161,12 +177,12 @@ pub fn modes_are_one()
 {}
 
 // What the line asks of the children.
-fn alt_over(query: &Query, node: Node, line: Line, children: Children, request: Request) -> Alt
+fn alt_over(query: &Query, node: Node, line: &Line, children: Children, request: Request) -> Alt
     requires known { (g : AnyKeyParts) → IsChild children g → IsGroup query.now g }
-    requires serves { LineServes query.now line children request }
+    requires serves { LineServes query.now line.now children request }
     ensures node { result.node ≡ node }
     ensures asks { AreAsked query.now result (groups_of children)
-        (asked_of line request) }
+        (asked_of line.now request) }
 {
     Alt {
         node,

@@ -52,7 +52,7 @@ pub fn native_cost(
     ensures most { result ≤ most_cost }
 {
     match line_of(query, props, expr, mode) {
-        Some(line) => native_cost_by(query, expr, line, expr_rows(query, props, expr), request),
+        Some(line) => native_cost_by(query, expr, &line, expr_rows(query, props, expr), request),
         None => 1,
     }
 }
@@ -75,12 +75,12 @@ pub fn expr_rows(query: &Query, props: &Props, expr: PhysicalExpr) -> ExprRows
 pub fn native_cost_by(
     query: &Query,
     expr: PhysicalExpr,
-    line: Line,
+    line: &Line,
     rows: ExprRows,
     request: Request,
 ) -> u64
     requires rows { AreRowsOf query.now expr rows }
-    ensures value { (mode : ℕ) → the_line_of query.now expr mode ≡ Some line →
+    ensures value { (mode : ℕ) → the_line_of query.now expr mode ≡ Some line.now →
         IsNativeCost query.now expr mode request result }
     ensures some { 1 ≤ result }
     ensures most { result ≤ most_cost }
@@ -156,14 +156,14 @@ fn cost_over(query: &Query, enforcer: Enforcer, rows: u64, below: Request) -> u6
 fn native_shape(
     query: &Query,
     expr: PhysicalExpr,
-    line: Line,
+    line: &Line,
     rows: ExprRows,
     request: Request,
 ) -> CostShape
     requires { AreRowsOf query.now expr rows }
     ensures value { result ≡ the_operator_shape expr.operator
-        (first_asked query.now (groups_of (physical_children expr.operator)) (asked_of line request))
-        (second_asked query.now (groups_of (physical_children expr.operator)) (asked_of line request))
+        (first_asked query.now (groups_of (physical_children expr.operator)) (asked_of line.now request))
+        (second_asked query.now (groups_of (physical_children expr.operator)) (asked_of line.now request))
         (share_of query.now expr.group (the_class_asked request.dist)) }
     ensures bounded { IsBounded result }
 {

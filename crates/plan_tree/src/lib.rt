@@ -19,7 +19,8 @@ mod serving_modes;
 mod walks;
 
 pub use alternatives::{
-    Alt, alternative, alternative_at, alternative_by, alternative_in, alternative_of, modes_are_one,
+    Alt, alternative, alternative_at, alternative_by, alternative_in, alternative_of,
+    modes_are_one, word_of_candidate,
 };
 pub use answers::{Answered, Answers};
 pub use cost::{ExprRows, enforcer_cost, enforcer_cost_by, expr_rows, native_cost, native_cost_by};

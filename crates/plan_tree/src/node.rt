@@ -1,9 +1,11 @@
 //! Nodes as numbers. Nothing else packs or unpacks a node.
 #![tactic(auto)]
 
-ghost use Rattle.std.specs.Prelude.{ℕ, ◌≡◌, ◌≢◌, ◌↔◌, Some, IfNone, IfSome};
+ghost use Rattle.std.specs.Prelude.{ℕ, ◌≡◌, ◌≢◌, ◌↔◌, ◌<◌, Some, IfNone, IfSome};
+ghost use Rattle.query_core.specs.Expressions.{HasWord, expr_of};
+ghost use Rattle.query_core.specs.Goals.{FitsExpr};
 ghost use Rattle.query_core.specs.declared.expressions.PhysicalExpr.{PhysicalExpr as AnyPhysicalExpr};
-ghost use Rattle.plan_space.specs.Nodes.{enforcer_number as the_enforcer_number, number_of};
+ghost use Rattle.plan_space.specs.Nodes.{enforcer_number as the_enforcer_number, node_modes, number_of};
 ghost use Rattle.plan_space.specs.declared.nodes.NodeKind.{NodeKind as AnyNodeKind};
 ghost use Rattle.plan_space.specs.declared.nodes.NodeKind.TheVariants.{Native};
 ghost use Rattle.plan_tree.specs.Nodes.{EnforcerInRange, IsNodeInRange, IsNode, NativeInRange};
@@ -33,10 +35,20 @@ impl Node {
         requires { IsNodeInRange kind }
         ensures { IsNode result kind }
     {
-        Node(match kind {
-            NodeKind::Native(e, mode) => NATIVE + (Expr::make(e.parts()).0 << 8) + mode as u64,
-            NodeKind::Enforcer(enforcer) => enforcer_number(enforcer),
-        })
+        match kind {
+            NodeKind::Native(e, mode) => Node::native(Expr::make(e.parts()), mode),
+            NodeKind::Enforcer(enforcer) => Node(enforcer_number(enforcer)),
+        }
+    }
+
+    /// The node of the physical expression of this word in a mode.
+    pub fn native(word: Expr, mode: u32) -> Node
+        requires word { FitsExpr word.0 }
+        requires few { mode < node_modes }
+        ensures { (e : AnyPhysicalExpr) → HasWord word.0 (expr_of e) →
+            IsNode result (Native e mode) }
+    {
+        Node(NATIVE + (word.0 << 8) + mode as u64)
     }
 
     /// What the node does; none for a number that no node has.

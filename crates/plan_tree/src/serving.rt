@@ -47,24 +47,24 @@ pub fn may_give(query: &Query, props: &Props, line: Line, wanted: Dist) -> bool
 }
 
 /// What the line asks of the left child.
-pub fn asked_left(line: Line, wanted: Request) -> Option<Request>
-    ensures { result ≡ slice_get (asked_of line wanted) 0 }
+pub fn asked_left(line: &Line, wanted: Request) -> Option<Request>
+    ensures { result ≡ slice_get (asked_of line.now wanted) 0 }
 {
     match line {
         Line::Leaf(_, _) => None,
-        Line::Above(dist, order) => Some(left_asked(dist, order, wanted)),
-        Line::Beside(dist, order, _) => Some(left_asked(dist, order, wanted)),
+        Line::Above(dist, order) => Some(left_asked(*dist, *order, wanted)),
+        Line::Beside(dist, order, _) => Some(left_asked(*dist, *order, wanted)),
     }
 }
 
 /// What the line asks of the right child.
-pub fn asked_right(line: Line, wanted: Request) -> Option<Request>
-    ensures { result ≡ slice_get (asked_of line wanted) 1 }
+pub fn asked_right(line: &Line, wanted: Request) -> Option<Request>
+    ensures { result ≡ slice_get (asked_of line.now wanted) 1 }
 {
     match line {
         Line::Leaf(_, _) => None,
         Line::Above(_, _) => None,
-        Line::Beside(_, _, right) => Some(right),
+        Line::Beside(_, _, right) => Some(*right),
     }
 }
 

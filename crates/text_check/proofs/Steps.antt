@@ -1,5 +1,6 @@
 -- A line more is gone through, from the last one up.
-use Rattle.std.proofs.Common.{◌≡◌, ℕ, suc, ◌+◌, ◌≤◌, List, [], ◌∷◌, ◌++◌, Option, None, Some, map, length, reverse, refl, sym}
+use Rattle.std.proofs.Common.{◌≡◌, ℕ, suc, ◌+◌, ◌≤◌, List, [], ◌∷◌, ◌++◌, Option, None, Some, map, length, reverse}
+use Rattle.std.proofs.Common.{refl, sym}
 use Rattle.std.proofs.Common.{ap, ◌∙◌, subst, arith, append_assoc, inl, inr}
 use Rattle.std.specs.List.{All}
 use Rattle.std.proofs.lemmas.Bool.{cases_lt}
@@ -18,7 +19,8 @@ use Rattle.text_check.specs.Blocks.{Fits, LineFits, EndsBlock, tails, AreLinesOf
 use Rattle.text_check.specs.Grown.{StandsOver, IsOver, AreDeeper, EndsAt, AreOf, IsTaken, kids_list}
 use Rattle.text_check.specs.declared.kids.Grown.{Grown}
 use Rattle.text_check.specs.declared.kids.TakenKids.{TakenKids}
-use Rattle.text_check.proofs.LineBlocks.{IsForest, first_level, forest_of, line_fits, line_stands, none_fits, plan_first}
+use Rattle.text_check.proofs.LineBlocks.{IsForest, first_level, forest_of, line_fits, line_stands, none_fits}
+use Rattle.text_check.proofs.LineBlocks.{plan_first}
 
 -- ---- the lines behind a line
 

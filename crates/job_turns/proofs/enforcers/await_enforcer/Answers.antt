@@ -18,8 +18,8 @@ pub enforcer_for-requires-clause-fits : goal.enforcer_for-requires-clause-fits
 enforcer_for-requires-clause-fits g c = c.goals_are_known.ensures.requests c.args.search.now.query.now
     (Opt c.args.group c.args.wanted) c.requires.goal.is_goal
 
-pub word-word-requires : goal.word-word-requires
-word-word-requires g c =
+pub request_goal-word-requires : goal.request_goal-word-requires
+request_goal-word-requires g c =
     let q = c.args.search.now.query.now in
     let group = c.args.group in
     let wanted = c.args.wanted in
@@ -30,7 +30,7 @@ word-word-requires g c =
     (inr (inr (found.e, found.can, ap (λ (r : Request). Opt group r) found.is.is.1)))).1
 
 pub await_best-requires-clause-word : goal.await_best-requires-clause-word
-await_best-requires-clause-word g c = sym c.word-word.ensures.number
+await_best-requires-clause-word g c = sym c.request_goal-word.ensures.number
 
 pub await_best-requires-clause-child : goal.await_best-requires-clause-child
 await_best-requires-clause-child g c =

@@ -10,30 +10,25 @@ use Rattle.job_turns.proofs.Staying.{small_of}
 use Rattle.job_turns.proofs.JobHeld.{job_put}
 use Rattle.job_turns.proofs.known_best.put_child.Goals as goal
 
-pub word-requires : goal.word-requires
-word-requires g c =
-    let child = c.requires.child in (c.words_are_known.ensures.words c.args.search.now.query.now
-    (small_of c.requires.at_work.has_job.its) child.0 c.args.child c.args.turn.now.job.right.goal child.1 child.2).1
-
 pub put_goal-requires-clause-enters : goal.put_goal-requires-clause-enters
 put_goal-requires-clause-enters g c κs within =
     let child = c.requires.child in
-    let enters : IsEntry c.args.search.now.query.now c.word.result.0 =
+    let enters : IsEntry c.args.search.now.query.now c.args.word.0 =
     inr (
-      c.args.child,
+      c.args._child,
       record {
-        is_goal = child_goal child.0 c.args.child child.1.is_goal child.2;
-        number = sym c.word.ensures.number;
+        is_goal = child_goal child.0 c.args._child child.1.is_goal child.2;
+        number = c.requires.word;
       },
     ) in
-    subst (λ (q : Query). IsEntry q c.word.result.0) (sym c.requires.at_work.has_job.its.same_query) enters
+    subst (λ (q : Query). IsEntry q c.args.word.0) (sym c.requires.at_work.has_job.its.same_query) enters
 
 pub returns-in-Full-clause-at_work : goal.returns-in-Full-clause-at_work
 returns-in-Full-clause-at_work g c =
     record {
       still = record {
         has_job = job_put c.args.search.now c.args.turn.now.seat.now c.put_goal.new.seat c.args.turn.now.job
-            c.put_goal.ensures.seat c.requires.at_work.has_job c.word.result.0 c.put_goal.result
+            c.put_goal.ensures.seat c.requires.at_work.has_job c.args.word.0 c.put_goal.result
             c.put_goal.ensures.answer;
         hints = c.put_goal.ensures.hints ∙ c.requires.at_work.hints;
       };
@@ -46,13 +41,13 @@ returns-in-Full-clause-puts g c =
     let q = c.args.search.now.query.now in
     let child = c.requires.child in
     let right = c.args.turn.now.job.right in
-    let known = (c.words_are_known.ensures.words q (small_of c.requires.at_work.has_job.its) child.0 c.args.child
+    let known = (c.words_are_known.ensures.words q (small_of c.requires.at_work.has_job.its) child.0 c.args._child
     right.goal child.1 child.2).0 in
     record {
       same_right = refl;
       puts = runs_out_at (meaning_of q) c.args.search.now.board.now.setup.capacity (IsChildWord q right.goal)
           (hands c.args.turn.now.seat.now) right
-          c.word.result.0 (hands c.put_goal.new.seat) (subst (IsChildWord q right.goal) (sym c.word.ensures.number)
+          c.args.word.0 (hands c.put_goal.new.seat) (subst (IsChildWord q right.goal) c.requires.word
           known)
           c.in-Full.ensures.answer;
     }
@@ -62,7 +57,7 @@ returns-in_default-clause-at_work g c =
     record {
       still = record {
         has_job = job_put c.args.search.now c.args.turn.now.seat.now c.put_goal.new.seat c.args.turn.now.job
-            c.put_goal.ensures.seat c.requires.at_work.has_job c.word.result.0 c.put_goal.result
+            c.put_goal.ensures.seat c.requires.at_work.has_job c.args.word.0 c.put_goal.result
             c.put_goal.ensures.answer;
         hints = c.put_goal.ensures.hints ∙ c.requires.at_work.hints;
       };
@@ -75,13 +70,13 @@ returns-in_default-clause-puts g c =
     let q = c.args.search.now.query.now in
     let child = c.requires.child in
     let right = c.args.turn.now.job.right in
-    let known = (c.words_are_known.ensures.words q (small_of c.requires.at_work.has_job.its) child.0 c.args.child
+    let known = (c.words_are_known.ensures.words q (small_of c.requires.at_work.has_job.its) child.0 c.args._child
     right.goal child.1 child.2).0 in
     record {
       same_right = refl;
       puts = proceeds_put (meaning_of q) c.args.search.now.board.now.setup.capacity (IsChildWord q right.goal)
           (hands c.args.turn.now.seat.now) right
-          c.word.result.0 c.put_goal.result (hands c.put_goal.new.seat)
-          (subst (IsChildWord q right.goal) (sym c.word.ensures.number) known) c.in_default.not-Full
+          c.args.word.0 c.put_goal.result (hands c.put_goal.new.seat)
+          (subst (IsChildWord q right.goal) c.requires.word known) c.in_default.not-Full
           c.put_goal.ensures.answer;
     }

@@ -19,7 +19,7 @@ use Rattle.job_turns.proofs.modes.await_alternative.Goals as goal
 pub await_asked-requires-clause-asked : goal.await_asked-requires-clause-asked
 await_asked-requires-clause-asked g c =
     let native = c.args.native.now in
-    (children_asked c.args.search.now.query.now native.expr native.wanted native.mode c.args.alt native.line
+    (children_asked c.args.search.now.query.now native.expr native.wanted native.mode c.args.alt native.line.now
     c.requires.alternative
     c.args.turn.now.job.right.goal c.requires.goal).0
 
@@ -28,7 +28,7 @@ await_asked-requires-2-clause-asked g c =
     let native = c.args.native.now in
     subst (λ (word : ℕ). IsAskedByChild c.args.search.now.query.now word c.args.alt.right)
     (sym c.in_ok-left.ensures.chooses.awaited.proceeds.same_goal)
-    (children_asked c.args.search.now.query.now native.expr native.wanted native.mode c.args.alt native.line
+    (children_asked c.args.search.now.query.now native.expr native.wanted native.mode c.args.alt native.line.now
     c.requires.alternative
     c.args.turn.now.job.right.goal c.requires.goal).1
 
@@ -55,7 +55,7 @@ best_in_mode-best-requires-clause-below g c = record {
 
 -- the choice that the alternative comes to
 in_mode : (q : Query) (capacity : ℕ) (v : Hands Rules) (before : Right) (native : WantedNative) (alt : Alt)
-    → IsAltBy q native.expr native.wanted native.mode alt native.line
+    → IsAltBy q native.expr native.wanted native.mode alt native.line.now
     → (left right : KnownBest) (u : Hands Rules) (middle : Right) (w : Hands Rules) (after : Right)
     → FindsBest q capacity v before (IsGoalAsked q alt.left) (IsBestAsked q alt.left) left u middle
     → FindsBest q capacity u middle (IsGoalAsked q alt.right) (IsBestAsked q alt.right) right w after
@@ -66,7 +66,7 @@ in_mode q capacity v before native alt is left right u middle w after a b known_
     finds_two q capacity v before (IsGoalAsked q alt.left) (IsGoalAsked q alt.right)
     (IsGoalIn q native.expr native.wanted native.mode) (IsBestAsked q alt.left) (IsBestAsked q alt.right)
     (IsBestIn q native.expr native.wanted native.mode)
-    (goal_of_one q native.expr native.wanted native.mode alt native.line is) left right u middle w after a b known_best
+    (goal_of_one q native.expr native.wanted native.mode alt native.line.now is) left right u middle w after a b known_best
     known
 
 pub returns-in-Known-Known-clause-chooses : goal.returns-in-Known-Known-clause-chooses
@@ -79,7 +79,7 @@ returns-in-Known-Known-clause-chooses g c =
     c.await_asked.new.turn.job.right
     (hands c.await_asked-2.new.turn.seat.now) c.await_asked-2.new.turn.job.right c.in_ok-left.ensures.chooses
     c.in_ok-right.ensures.chooses (Known c.best_in_mode-best.result)
-    (best_in c.args.search.now.query.now native.expr native.wanted native.mode c.args.alt native.line
+    (best_in c.args.search.now.query.now native.expr native.wanted native.mode c.args.alt native.line.now
     c.requires.alternative
     c.best_in_mode-best.result (c.best_in_mode-best.ensures native.mode c.requires.alternative))
 

@@ -15,6 +15,11 @@ use Rattle.job_turns.proofs.Tried.{IsGoalBelow, IsBestBelow, goal_below_none, be
 use Rattle.job_turns.proofs.Tried.{best_below_more, goal_below_all, best_below_all}
 use Rattle.job_turns.proofs.modes.best_mode.Goals as goal
 
+pub word_of_candidate-word-requires : goal.word_of_candidate-word-requires
+word_of_candidate-word-requires g c =
+    c.goals_are_known.ensures.candidates c.args.search.now.query.now (OptE c.args.expr c.args.wanted)
+    c.requires.goal.is_goal
+
 pub expr_rows-rows-requires-clause-candidate : goal.expr_rows-rows-requires-clause-candidate
 expr_rows-rows-requires-clause-candidate g c =
     c.goals_are_known.ensures.candidates c.args.search.now.query.now (OptE c.args.expr c.args.wanted)
@@ -52,6 +57,7 @@ await_mode-requires-clause-native g c =
       member = (c.goals_are_known.ensures.members q known c.requires.goal.is_goal).1;
       fits = c.goals_are_known.ensures.requests q known c.requires.goal.is_goal;
       rows = c.expr_rows-rows.ensures;
+      word = c.word_of_candidate-word.ensures;
       line = next.3.is_line;
       few = omega (arith, next.1);
     }

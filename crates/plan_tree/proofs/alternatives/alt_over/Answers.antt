@@ -30,6 +30,6 @@ both_asked q alt (Beside dist order request) (Two first second) wanted serves le
 pub returns-clause-asks : goal.returns-clause-asks
 returns-clause-asks c =
     both_asked c.args.query.now (record { node = c.args.node; left = c.ask.result; right = c.ask-2.result })
-    c.args.line c.args.children c.args.request c.requires.serves
+    c.args.line.now c.args.children c.args.request c.requires.serves
     (rw (← c.left_child.ensures, ← c.asked_left.ensures) c.ask.ensures)
     (rw (← c.right_child.ensures, ← c.asked_right.ensures) c.ask-2.ensures)

@@ -1,12 +1,13 @@
+use Rattle.std.proofs.Common.{subst}
 use Rattle.query_core.specs.Expressions.{expr_of}
+use Rattle.query_core.specs.Goals.{FitsExpr}
 use Rattle.plan_tree.proofs.alternatives.alternative_at.Goals as goal
 
--- a candidate has a word
-pub make-node-requires : goal.make-node-requires
-make-node-requires c = record {
-  packed = c.candidates_are_known.ensures.packed c.args.query.now (expr_of c.args.expr) c.requires.candidate;
-  few = c.requires.few;
-}
+-- the expression's word fits
+pub native-node-requires-clause-word : goal.native-node-requires-clause-word
+native-node-requires-clause-word c =
+    subst FitsExpr c.requires.word.number
+    (c.expressions_are_one.ensures.small (expr_of c.args.expr) c.requires.word.packed)
 
 -- and its children are groups of the query
 pub alt_over-requires-clause-known : goal.alt_over-requires-clause-known

@@ -3,7 +3,8 @@ use Rattle.plan_tree.specs.Alternatives.{IsAltOf, HasAlternative}
 use Rattle.plan_tree.proofs.Decided.{has, has_alternative, has_none, has_no_line}
 use Rattle.plan_tree.proofs.Modes.{passing, modes_are, skipped_to, at_first, after_first, at_end}
 use Rattle.plan_tree.proofs.alternatives.alternative_of.Goals as goal
-use Rattle.plan_tree.proofs.alternatives.alternative_of.Goals.{in-Some-alternative_by+else-seen-n, in-None-alternative_by}
+use Rattle.plan_tree.proofs.alternatives.alternative_of.Goals.{in-Some-alternative_by+else-seen-n}
+use Rattle.plan_tree.proofs.alternatives.alternative_of.Goals.{in-None-alternative_by}
 
 -- the mode is at the place
 pub returns-then-seen-n : goal.returns-then-seen-n
