@@ -18,5 +18,7 @@ pub mod GroupCrossings
 pub mod ListsOfEnds
 pub mod CrossingsByAny
 pub mod PhysicalLists
+pub mod JoinSetLemmas
+pub mod Merging
 pub mod Mapped
 pub mod MappedLookups

@@ -1,12 +1,12 @@
 -- Laws of sets of numbers below 64, each the bit of its number in a mask.
 use Rattle.std.proofs.Common.{◌≡◌, ℕ, ◌+◌, ◌-◌, ◌*◌, ◌/◌, ◌%◌, ◌^◌, ◌<◌, ◌≤◌, ◌⊎◌, ◌↔◌, inl, inr, arith, ap, sym, subst}
 use Rattle.std.proofs.Common.{◌∙◌, IsTrue, Bool}
-use Rattle.std.specs.Prelude.{bit_and, bit_or, bit_xor}
+use Rattle.std.specs.Prelude.{bit_and, bit_or, bit_xor, nat_eq}
 use Rattle.std.specs.Int.{w64, bit_at, trailing_zeros}
-use Rattle.std.proofs.lemmas.Bool.{cases_lt, cases_eq}
+use Rattle.std.proofs.lemmas.Bool.{cases_lt, cases_eq, eqb-true, eq-eqb}
 use Rattle.std.proofs.Math.Nat.{div-le_self}
 use Rattle.std.proofs.lemmas.Nat.{shr-shr, one_shl}
-use Rattle.std.proofs.lemmas.Nat.Bits.{bit_at_set_same, bit_at_set_other, bit_at-zero, bit_at-trailing_zeros}
+use Rattle.std.proofs.lemmas.Nat.Bits.{bit_at_set_same, bit_at_set_other, bit_at-zero, bit_at-trailing_zeros, shr_and_one}
 use Rattle.query_core.specs.Sets.{bit, Has}
 use Rattle.query_core.proofs.Bits.{bit-or, bit-and, bit-difference, bit-below, bit-beyond, bit-first, bit-after}
 
@@ -68,6 +68,14 @@ mask_below mask k fits has = elim (cases_lt k 64) [
   | inr more ↦
       absurd (omega (arith, bit-beyond mask 64 k fits more, has))
 ]
+
+-- a number is in the mask where the test of its bit says so
+pub tested : (mask k : ℕ) → IsTrue (nat_eq (bit_and (mask / 2 ^ k) 1) 1) ↔ Has mask k
+unfolding bit
+tested mask k = (
+  λ is. sym (shr_and_one mask k) ∙ eqb-true (bit_and (mask / 2 ^ k) 1) 1 is,
+  λ has. eq-eqb (bit_and (mask / 2 ^ k) 1) 1 (shr_and_one mask k ∙ has),
+)
 
 -- the ones below a bit
 pub ones_have : (bound k : ℕ) → bound < 64 → k < bound → Has (1 * 2 ^ bound % 2 ^ 64 - 1) k

@@ -4,7 +4,7 @@ use Rattle.query_core.specs.declared.query.Query.{Query}
 use Rattle.query_core.specs.declared.words.KeyParts.{KeyParts}
 use Rattle.request_props.specs.Dists.{list_asked}
 use Rattle.request_props.specs.Lying.{ListLiesIn, OrderLiesIn}
-use Rattle.request_props.specs.Numbered.{list_of, IsList, IsNumbered, order_of}
+use Rattle.request_props.specs.Numbers.{list_of, IsList, IsNumbered, order_of}
 use Rattle.request_props.specs.declared.request.Dist.{Dist}
 use Rattle.request_props.specs.declared.request.Request.{Request}
 

@@ -9,7 +9,9 @@ pub mod NumberSets
 pub mod Ends
 pub mod Joins
 pub mod Lying
-pub mod Numbered
-pub mod Counted
+pub mod Numbers
 pub mod Fitting
 pub mod Satisfied
+pub mod JoinSets
+pub mod Numbered
+pub mod Counted

@@ -1,7 +1,7 @@
--- The numbered lists and orders of a query, what is asked of its whole plan, and what else a query implies.
-use Rattle.std.specs.Prelude.{ℕ, zero, suc, Bool, ◌≡◌, ◌≤◌, ◌<◌, ◌+◌, ◌*◌, ◌&&◌, List, [], ◌∷◌, Option, None, Some, map}
-use Rattle.std.specs.Prelude.{length, nat_lt, bytes_eq, slice_get, slice_index_or, ⊤}
-use Rattle.std.specs.List.{list_all, position_or_len}
+-- What is asked of the whole plan of a query, and what else a query implies, beside its numbered lists and orders.
+use Rattle.std.specs.Prelude.{ℕ, Bool, ◌≡◌, ◌≤◌, ◌<◌, ◌+◌, ◌&&◌, List, Option, None, Some, map}
+use Rattle.std.specs.Prelude.{length, nat_lt, slice_get, ⊤}
+use Rattle.std.specs.List.{list_all}
 use Rattle.std.specs.Option.{option_map_or}
 use Rattle.query_core.specs.Crossing.{equal_item}
 use Rattle.query_core.specs.Keys.{is_grouped_by}
@@ -9,12 +9,14 @@ use Rattle.query_core.specs.declared.query.Query.{Query}
 use Rattle.query_core.specs.declared.predicate.Pred.{Pred}
 use Rattle.query_core.specs.declared.options.RootDist.{RootDist}
 use Rattle.query_core.specs.declared.options.RootDist.TheVariants.{One, Spread}
-use Rattle.request_props.specs.Listing.{listing_of}
-use Rattle.request_props.specs.Found.{ascending, elements_of, wanted_order, found_lists, found_orders}
+pub use Rattle.request_props.specs.Numbers.{lists_of, orders_of, IsList, IsNumbered, order_among, order_of, list_number}
+pub use Rattle.request_props.specs.Numbers.{list_of, order_number, column_list, column_order}
+use Rattle.request_props.specs.Found.{ascending, elements_of, wanted_order}
 use Rattle.request_props.specs.Groups.{AreKeys, AreGroupRows}
 use Rattle.request_props.specs.Candidates.{AreCandidates, ArePhysical}
 use Rattle.request_props.specs.Ends.{AreEnds, AreSetEnds, AreTableEnds, IsGivenBy}
 use Rattle.request_props.specs.Lying.{items_of, AreTablesOf}
+use Rattle.request_props.specs.JoinSets.{AreJoinTables}
 use Rattle.request_props.specs.declared.tables.ends.EqualityEnds.{EqualityEnds}
 use Rattle.request_props.specs.declared.given.GivenDist.{GivenDist}
 use Rattle.request_props.specs.declared.given.GivenDist.TheVariants as given
@@ -29,31 +31,6 @@ use Rattle.request_props.specs.declared.tables.PlacementTables.{PlacementTables}
 use Rattle.request_props.specs.declared.props.Props.{Props}
 use Rattle.request_props.specs.declared.fault.PropsFault.{PropsFault}
 use Rattle.request_props.specs.declared.fault.PropsFault.TheVariants.{TooManyLists, TooManyOrders, Memory}
-
--- the hashed lists of the query; a list's number is its place
-abbrev pub lists_of : Query → List (List ℕ)
-lists_of q = listing_of (found_lists q)
-
--- the orders of the query that have a number, from 1 on
-abbrev pub orders_of : Query → List (List ℕ)
-orders_of q = listing_of (found_orders q)
-
--- some hashed list has the number
-abbrev pub IsList : Query → ℕ → Type 0
-IsList q number = number < length (lists_of q)
-
--- some order has the number; the empty order has 0
-abbrev pub IsNumbered : Query → ℕ → Type 0
-IsNumbered q number = number ≤ length (orders_of q)
-
--- of these orders the one that has the number
-abbrev pub order_among : List (List ℕ) → ℕ → List ℕ
-order_among orders zero = []
-order_among orders (suc place) = slice_index_or orders place []
-
--- the order that has the number
-abbrev pub order_of : Query → ℕ → List ℕ
-order_of q number = order_among (orders_of q) number
 
 -- the sets of each order, by its number, the empty one's first
 abbrev pub AreOrderEnds : Query → List EqualityEnds → Type 0
@@ -73,27 +50,6 @@ pub record IsNumberOf (orders : List (List ℕ)) (order : List ℕ) (number : �
 pub record IsRoot (q : Query) (request : Request) : Type 0 where
   pub dist : request.dist ≡ root_dist q.options.root
   pub order : IsNumberOf (orders_of q) (wanted_order q) request.order
-
--- the number of a hashed list of the query
-abbrev pub list_number : Query → List ℕ → ℕ
-list_number q list = position_or_len (bytes_eq list) (lists_of q)
-
--- the list that has the number
-abbrev pub list_of : Query → ℕ → List ℕ
-list_of q number = slice_index_or (lists_of q) number []
-
--- the number of an order of the query; the empty order has 0
-abbrev pub order_number : Query → List ℕ → ℕ
-order_number q [] = 0
-order_number q (first ∷ others) = suc (position_or_len (bytes_eq (first ∷ others)) (orders_of q))
-
--- the hashed list of one column
-abbrev pub column_list : Query → ℕ → ℕ
-column_list q column = list_number q (column ∷ [])
-
--- the order of one ascending column
-abbrev pub column_order : Query → ℕ → ℕ
-column_order q column = order_number q ((2 * column) ∷ [])
 
 -- the sets of each hashed list, by its number, and of the columns that have none
 abbrev pub AreListEnds : Query → List EqualityEnds → Type 0
@@ -181,6 +137,7 @@ pub record IsProps (q : Query) (props : Props) : Type 0 where
   pub groups : AreGroupTables q props.groups.value
   pub equalities : AreEqualityTables q props.equalities.value
   pub placement : ArePlacementTables q props.placement.value
+  pub joins : AreJoinTables q props.groups.value.physical props.joins
 
 -- there are more than 60 hashed lists, or else more than 60 orders, and so many of them
 abbrev pub IsRefusedFor : Query → PropsFault → Type 0

@@ -7,7 +7,7 @@ use Rattle.cost_units.specs.declared.shape.Class.{Class}
 use Rattle.cost_units.specs.declared.shape.Class.TheVariants as classes
 use Rattle.request_props.specs.Dists.{class_of, class_asked, list_given, list_asked}
 use Rattle.request_props.specs.Found.{ascending}
-use Rattle.request_props.specs.Numbered.{IsNumbered, order_of}
+use Rattle.request_props.specs.Numbers.{IsNumbered, order_of}
 use Rattle.request_props.specs.declared.request.Dist.{Dist}
 use Rattle.request_props.specs.declared.request.Request.{Request}
 use Rattle.request_props.specs.declared.given.GivenDist.{GivenDist}

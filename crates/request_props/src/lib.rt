@@ -26,4 +26,5 @@ pub use request::{
 };
 pub use satisfaction::{meets, satisfies};
 pub use sides::Side;
+pub use tables::join_sets::JoinSets;
 pub use tables::physical::PhysicalCandidate;

@@ -41,6 +41,13 @@ impl NumberSet {
         self.mask == 0
     }
 
+    /// Whether the number is one of these.
+    pub fn has(self, number: u32) -> bool
+        ensures { IsTrue result ↔ IsInSet self number }
+    {
+        number < 64 && (self.mask >> number) & 1 == 1
+    }
+
     /// These numbers, and this one where it is to be one of them.
     pub fn with(self, number: u32, is_one: bool) -> NumberSet
         requires { number < 64 }

@@ -10,6 +10,7 @@ ghost use Rattle.request_props.specs.Numbered.{root_dist as the_root_dist};
 
 mod equalities;
 mod fitting;
+mod joining;
 mod lookups;
 
 use crate::fault::PropsFault;
@@ -17,6 +18,7 @@ use crate::found::{found_lists, found_orders, wanted_order};
 use crate::numbering::numbered;
 use crate::numbers::order_number;
 use crate::request::{Dist, Request};
+use crate::tables::join_sets::JoinSets;
 use crate::tables::{EqualityTables, GroupTables, PlacementTables};
 use orca_base::List;
 use query_core::{OrderKey, Query, RootDist};
@@ -36,11 +38,23 @@ pub struct Props {
     groups: Box<GroupTables>,
     equalities: Box<EqualityTables>,
     placement: Box<PlacementTables>,
+    /// Of the physical expressions of each group, what those can give that are joins.
+    joins: List<List<Option<JoinSets>>>,
 }
 
 impl Props {
     /// The lists and orders of the query. Too many lists are told first.
     pub fn collect(alloc: Global, query: &Query) -> Result<Props, PropsFault>
+        ensures ok { IfOk result (IsProps query.now) }
+        ensures fault { IfErr result (IsRefusedFor query.now) }
+    {
+        let mut props = Props::without_joins(alloc, query)?;
+        props.joins = List::of(props.join_tables(alloc, query)?);
+        Ok(props)
+    }
+
+    // The same, where it isn't known yet what joins can give.
+    fn without_joins(alloc: Global, query: &Query) -> Result<Props, PropsFault>
         ensures ok { IfOk result (IsProps query.now) }
         ensures fault { IfErr result (IsRefusedFor query.now) }
     {
@@ -59,6 +73,7 @@ impl Props {
             groups,
             equalities,
             placement,
+            joins: List::new(alloc),
         })
     }
 

@@ -8,6 +8,7 @@ ghost use Rattle.request_props.specs.Numbered.{AreGroupTables, AreEqualityTables
 pub mod candidates;
 pub mod ends;
 pub mod groups;
+pub mod join_sets;
 pub mod lying;
 pub mod physical;
 

@@ -1,7 +1,7 @@
 //! What the equalities of a query imply, looked up. No call here takes memory.
 #![tactic(auto)]
 
-ghost use Rattle.std.specs.Prelude.{◌≡◌, ◌≤◌, ◌<◌, ◌↔◌, ℕ, IfSome, None, Some, length};
+ghost use Rattle.std.specs.Prelude.{◌≡◌, ◌≤◌, ◌<◌, ◌+◌, ◌↔◌, ℕ, IfSome, None, Some, length};
 ghost use Rattle.std.specs.Prelude.{slice_get, slice_index_or};
 ghost use Rattle.std.specs.Option.{option_map, option_map_or};
 ghost use Rattle.query_core.specs.Crossing.{crossing_of, sides_of};
@@ -11,7 +11,8 @@ ghost use Rattle.request_props.specs.NumberSets.{IsInSet};
 ghost use Rattle.request_props.specs.declared.given.GivenDist.TheVariants.{Hashed};
 ghost use Rattle.request_props.specs.declared.tables.ends.EqualityEnds.{EqualityEnds as AnyEqualityEnds};
 ghost use Rattle.request_props.specs.Numbered.{IsProps, side_of, both_sides, equality_of};
-ghost use Rattle.request_props.specs.Numbered.{order_of, column_list, column_order};
+ghost use Rattle.request_props.specs.JoinSets.{AreThoseBelow, Merges};
+ghost use Rattle.request_props.specs.Numbered.{order_of, orders_of, column_list, column_order};
 ghost use Rattle.request_props.specs.Satisfied.{BeginsWith, Meets};
 
 use crate::number_set::NumberSet;
@@ -76,6 +77,21 @@ impl Props {
         let giving = self.ends_giving(query, order);
         self.ends(query, left)
             .across_by(self.ends(query, right), giving)
+    }
+
+    /// The orders that some predicate gives that equates columns across the groups, by that of the left group.
+    pub fn orders_merged(&self, query: &Query, left: KeyParts, right: KeyParts) -> NumberSet
+        requires { IsProps query.now self.now }
+        ensures { AreThoseBelow (Merges query.now left right) (length (orders_of query.now) + 1) result }
+    {
+        let of_left = self.ends(query, left);
+        let of_right = self.ends(query, right);
+        let mut orders = NumberSet::none();
+        for order in 0..self.orders.len() as u32 + 1 {
+            let merging = of_left.across_by(of_right, self.ends_giving(query, order));
+            orders = orders.with(order, !merging.is_empty());
+        }
+        orders
     }
 
     /// The predicates that equate columns across the groups, so that rows hashed by that of the left group are

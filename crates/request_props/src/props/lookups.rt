@@ -1,11 +1,12 @@
 //! What a query implies, looked up. No call here takes memory.
 #![tactic(auto)]
 
-ghost use Rattle.std.specs.Prelude.{◌≡◌, ◌≤◌, ◌<◌, ◌↔◌, IsTrue, None, Some};
+ghost use Rattle.std.specs.Prelude.{◌≡◌, ◌≤◌, ◌<◌, ◌↔◌, IsTrue, None, Some, [], slice_index_or};
 ghost use Rattle.query_core.specs.Keys.{IsGroup, IsKey, NamesGroup};
 ghost use Rattle.query_core.specs.declared.words.KeyParts.{KeyParts as AnyKeyParts};
 ghost use Rattle.cardinality.specs.Rows.{rows_of};
 ghost use Rattle.request_props.specs.Candidates.{AreCandidatesOf, ArePhysicalOf, FindsNext};
+ghost use Rattle.request_props.specs.JoinSets.{AreSetsAt};
 ghost use Rattle.request_props.specs.Numbered.{IsProps, IsList, IsNumbered};
 ghost use Rattle.request_props.specs.Numbered.{table_dist as the_table_dist, group_order as the_group_order};
 ghost use Rattle.request_props.specs.Numbered.{is_grouped_list as the_is_grouped_list};
@@ -13,6 +14,7 @@ ghost use Rattle.request_props.specs.Numbered.{is_grouped_list as the_is_grouped
 use crate::given::GivenDist;
 use crate::props::Props;
 use crate::tables::groups::is_key;
+use crate::tables::join_sets::JoinSets;
 use crate::tables::physical::PhysicalCandidate;
 use query_core::{Expr, KEYS, Key, KeyParts, Query, bound_after, count_below, groups_are_known};
 
@@ -51,14 +53,36 @@ impl Props {
         self.groups.candidates.as_slice()[Key::make(group).0 as usize].as_slice()
     }
 
-    /// The physical expressions that the group can hold, ascending by their words.
-    pub fn physical_of(&self, query: &Query, group: KeyParts) -> &[PhysicalCandidate]
+    /// The physical expressions that the group can hold, ascending by their words, and of each at its place what it can
+    /// give, if it is a join.
+    pub fn physical_of(
+        &self,
+        query: &Query,
+        group: KeyParts,
+    ) -> (&[PhysicalCandidate], &[Option<JoinSets>])
         requires props { IsProps query.now self.now }
         requires group { IsGroup query.now group }
-        ensures { ArePhysicalOf query.now group result.now }
+        ensures candidates { ArePhysicalOf query.now group result.0.now }
+        ensures sets { AreSetsAt query.now result.0.now result.1.now }
     {
         groups_are_known();
-        self.groups.physical.as_slice()[Key::make(group).0 as usize].as_slice()
+        let number = Key::make(group).0 as usize;
+        (
+            self.groups.physical.as_slice()[number].as_slice(),
+            self.sets_at(query, number),
+        )
+    }
+
+    // What the candidates can give of the group whose key has this number.
+    fn sets_at(&self, query: &Query, number: usize) -> &[Option<JoinSets>]
+        requires { IsProps query.now self.now }
+        ensures { AreSetsAt query.now (slice_index_or self.now.groups.value.physical number [])
+            result.now }
+    {
+        match self.joins.as_slice().get(number) {
+            Some(sets) => sets.as_slice(),
+            None => &[],
+        }
     }
 
     /// The estimated rows of the group that the key names, where the query has it.
