@@ -1,7 +1,9 @@
 //! The members of a group that may serve a request, and the best answer of them.
 #![tactic(auto)]
 
+ghost use Rattle.std.specs.Prelude.{◌≡◌, IfSome, None, slice_index_or};
 ghost use Rattle.request_props.specs.Candidates.{IsPhysicalOf};
+ghost use Rattle.request_props.specs.JoinSets.{AreSetsOf};
 ghost use Rattle.request_props.specs.Numbered.{IsNumbered};
 ghost use Rattle.request_props.specs.Requests.{IsRequestInRange};
 ghost use Rattle.goal_board.specs.Seats.{hands};
@@ -21,9 +23,9 @@ use best_answers::answers_are_best;
 use goal_board::{Hints, Seat};
 use goal_rules::{Rules, entries_are_known};
 use goal_space::{GoalKind, goals_are_known};
-use plan_tree::may_serve;
+use plan_tree::may_serve_by;
 use query_core::{Expr, Goal, KeyParts, candidates_are_known, expressions_are_one};
-use request_props::{PhysicalCandidate, Request};
+use request_props::{JoinSets, PhysicalCandidate, Request};
 use xform_rules::members_are_candidates;
 
 /// The best answer of the group's members. None where a goal found every cell taken.
@@ -43,10 +45,11 @@ pub(crate) fn best_member<'q, H: Hints>(
     goals_are_known();
     members_are_candidates();
     answers_are_best();
-    let candidates = search.props.physical_of(search.query, group);
+    let (candidates, joins) = search.props.physical_of(search.query, group);
     let mut known_best = KnownBest::Known(None);
-    for candidate in candidates {
-        let other = await_candidate(search, turn, *candidate, wanted)?;
+    for place in 0..candidates.len() {
+        let sets = sets_at(joins, place);
+        let other = await_candidate(search, turn, candidates[place], sets, wanted)?;
         known_best = known_best.or(other);
     }
     Some(known_best)
@@ -58,10 +61,12 @@ fn await_candidate<'q, H: Hints>(
     search: &BoardSearch<'_, 'q>,
     turn: &mut JobTurn<'_, 'q, H>,
     candidate: PhysicalCandidate,
+    sets: Option<JoinSets>,
     wanted: Request,
 ) -> Option<KnownBest>
     requires at_work { IsAtWork search.now turn.old (H.capacity turn.old.hints.now) }
     requires candidate { IsPhysicalOf search.now.query.now candidate.expr.group candidate }
+    requires sets { IfSome sets (AreSetsOf search.now.query.now candidate.expr.operator) }
     requires goal { IsTurnOf search.now turn.old (Opt candidate.expr.group wanted) }
     requires implemented { ShowsImplemented search.now turn.old.seat.now candidate.expr.group }
     ensures at_work { StaysAtWork search.now turn.old turn.new (H.capacity turn.new.hints.now) }
@@ -70,7 +75,7 @@ fn await_candidate<'q, H: Hints>(
     // For the proof: the request is one of the query's, and the best of no nodes is none.
     goals_are_known();
     answers_are_best();
-    match goal_here(search, turn.seat, candidate, wanted) {
+    match goal_here(search, turn.seat, candidate, sets, wanted) {
         Some(goal) => {
             let child = GoalKind::OptE(candidate.expr, wanted);
             await_best(search, turn, child, goal)
@@ -84,11 +89,13 @@ fn goal_here<'q>(
     search: &BoardSearch<'_, 'q>,
     seat: &mut Seat<Rules<'q>>,
     candidate: PhysicalCandidate,
+    sets: Option<JoinSets>,
     wanted: Request,
 ) -> Option<Goal>
     requires search { IsBoardSearch search.now }
     requires seat { IsSeat search.now.board.now seat.old }
     requires candidate { IsPhysicalOf search.now.query.now candidate.expr.group candidate }
+    requires sets { IfSome sets (AreSetsOf search.now.query.now candidate.expr.operator) }
     requires numbered { IsNumbered search.now.query.now wanted.order }
     requires in_range { IsRequestInRange wanted }
     requires implemented { ShowsImplemented search.now seat.old candidate.expr.group }
@@ -100,7 +107,7 @@ fn goal_here<'q>(
     candidates_are_known();
     expressions_are_one();
     entries_are_known();
-    if !may_serve(search.query, search.props, &candidate.expr, wanted) {
+    if !may_serve_by(search.query, search.props, &candidate.expr, sets, wanted) {
         return None;
     }
     let goal = member_goal(Expr(candidate.word), wanted);
@@ -112,5 +119,15 @@ fn goal_here<'q>(
         Some(goal)
     } else {
         None
+    }
+}
+
+// What the candidate at this place can give as a join, if that was found.
+fn sets_at(joins: &[Option<JoinSets>], place: usize) -> Option<JoinSets>
+    ensures { result ≡ slice_index_or joins.now place None }
+{
+    match joins.get(place) {
+        Some(sets) => *sets,
+        None => None,
     }
 }

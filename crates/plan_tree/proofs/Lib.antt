@@ -11,6 +11,7 @@ pub mod JoinModes
 pub mod JoinSuits
 pub mod ReadModes
 pub mod ChildModes
+pub mod AllowedBySets
 pub mod ModesTried
 pub mod WayModes
 pub mod FoundEnforcers

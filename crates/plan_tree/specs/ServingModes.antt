@@ -9,6 +9,7 @@ use Rattle.query_core.specs.declared.query.Query.{Query}
 use Rattle.query_core.specs.declared.words.KeyParts.{KeyParts}
 use Rattle.request_props.specs.Ends.{CrossesBy}
 use Rattle.request_props.specs.Fitting.{DistFits, HashFits, OrderFits}
+use Rattle.request_props.specs.JoinSets.{Merges}
 use Rattle.request_props.specs.NumberSets.{NoneBetween}
 use Rattle.request_props.specs.Numbered.{column_list, column_order, order_of}
 use Rattle.request_props.specs.Satisfied.{BeginsWith, Meets}
@@ -66,11 +67,6 @@ DistSuits q left dists.One = ⊤
 DistSuits q left dists.Spread = ⊤
 DistSuits q left dists.Copies = ⊥
 DistSuits q left (dists.Hashed list) = HashFits q left list
-
--- a predicate equates columns across the groups, of which rows in the order of the left one are in the order
-abbrev pub Merges : Query → KeyParts → KeyParts → ℕ → Type 0
-Merges q left right order =
-    (pred : ℕ) × CrossesBy q left right (λ a. BeginsWith (order_of q (column_order q a)) (order_of q order)) pred
 
 -- a join can give the order: a hash join none, a merge join that of a left column, a loop join that of its left child
 abbrev pub OrderSuits : Query → JoinBy → KeyParts → KeyParts → ℕ → Type 0

@@ -4,12 +4,13 @@
 #![tactic(auto)]
 
 ghost use Rattle.std.specs.Prelude.{ℕ, ◌≡◌, ◌↔◌, [], IsTrue};
+ghost use Rattle.request_props.specs.JoinSets.{Merges};
 ghost use Rattle.request_props.specs.NumberSets.{IsInSet};
 ghost use Rattle.request_props.specs.Numbered.{IsProps, order_of};
 ghost use Rattle.request_props.specs.Satisfied.{BeginsWith};
 ghost use Rattle.plan_space.specs.Lines.{on_one};
 ghost use Rattle.plan_space.specs.declared.lines.LeftDist.TheVariants.{SameSpread};
-ghost use Rattle.plan_tree.specs.ServingModes.{AreJoinModes, DistSuits, IsPlaced, Merges, OrderSuits};
+ghost use Rattle.plan_tree.specs.ServingModes.{AreJoinModes, DistSuits, IsPlaced, OrderSuits};
 
 use crate::walks::tried;
 use plan_space::{JoinBy, ModeSets};

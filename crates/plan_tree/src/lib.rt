@@ -32,5 +32,5 @@ pub use plan::{Found, Plan};
 pub use seen::{Kids, given_satisfies, seen_above};
 pub use seen_cost::{cost_above, rows_above};
 pub use serving::may_give;
-pub use serving_modes::{may_serve, modes_to_try, next_alternative};
+pub use serving_modes::{may_serve, may_serve_by, modes_to_try, next_alternative};
 pub use walks::next_line;

@@ -2,8 +2,9 @@
 //! which the operator works tells them with the request: no line is looked at to find them.
 #![tactic(auto)]
 
-ghost use Rattle.std.specs.Prelude.{◌↔◌, IsTrue};
+ghost use Rattle.std.specs.Prelude.{◌↔◌, IfSome, IsTrue};
 ghost use Rattle.query_core.specs.Expressions.{expr_of, IsCandidate};
+ghost use Rattle.request_props.specs.JoinSets.{AreSetsOf};
 ghost use Rattle.request_props.specs.Numbered.{IsProps, IsNumbered};
 ghost use Rattle.plan_tree.specs.ServingModes.{AreToTry, IsNextServing, MayServe};
 
@@ -14,7 +15,7 @@ use crate::read_modes::read_modes;
 use crate::walks::next_of;
 use plan_space::{Line, MODES_END, ModeSets, Way, modes_are_few, way_of, what_is_asked_fits};
 use query_core::{PhysicalExpr, Query};
-use request_props::{Props, Request};
+use request_props::{JoinSets, Props, Request};
 
 /// Whether the expression may serve the request in some mode.
 pub fn may_serve(query: &Query, props: &Props, expr: &PhysicalExpr, wanted: Request) -> bool
@@ -30,6 +31,28 @@ pub fn may_serve(query: &Query, props: &Props, expr: &PhysicalExpr, wanted: Requ
         Way::Passes(_, _) => serves_in_some(query, props, *expr, wanted),
         Way::Joins(by, left, right) => join_may_serve(query, props, by, left, right, wanted),
         Way::Groups(_, _) => serves_in_some(query, props, *expr, wanted),
+    }
+}
+
+/// The same, by what the expression can give as a join, where that was found before.
+pub fn may_serve_by(
+    query: &Query,
+    props: &Props,
+    expr: &PhysicalExpr,
+    sets: Option<JoinSets>,
+    wanted: Request,
+) -> bool
+    requires props { IsProps query.now props.now }
+    requires candidate { IsCandidate query.now (expr_of expr.now) }
+    requires sets { IfSome sets (AreSetsOf query.now expr.now.operator) }
+    requires numbered { IsNumbered query.now wanted.order }
+    ensures { IsTrue result ↔ MayServe query.now expr.now wanted }
+{
+    // For the proof: the columns of a join have lists and orders that fit its left child.
+    what_is_asked_fits();
+    match sets {
+        Some(sets) => sets.allow(wanted),
+        None => may_serve(query, props, expr, wanted),
     }
 }
 

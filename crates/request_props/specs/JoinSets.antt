@@ -43,16 +43,10 @@ pub record AreSetsFor (q : Query) (left : KeyParts) (IsGiven : ℕ → Type 0) (
 -- the operator is a join, and the sets are what it can give: a hash join no order, a merge join that of a left column,
 -- a loop join that of its left child
 abbrev pub AreSetsOf : Query → Physical → JoinSets → Type 0
-AreSetsOf q physical.Scan sets = ⊥
-AreSetsOf q (physical.IndexScan index) sets = ⊥
-AreSetsOf q (physical.Filter child) sets = ⊥
-AreSetsOf q (physical.IndexSeek index) sets = ⊥
 AreSetsOf q (physical.HashJoin left right) sets = AreSetsFor q left (λ order. BeginsWith [] (order_of q order)) sets
 AreSetsOf q (physical.MergeJoin left right) sets = AreSetsFor q left (Merges q left right) sets
 AreSetsOf q (physical.LoopJoin left right) sets = AreSetsFor q left (OrderFits q left) sets
-AreSetsOf q (physical.HashAgg child) sets = ⊥
-AreSetsOf q (physical.StreamAgg child) sets = ⊥
-AreSetsOf q (physical.PartialAgg child) sets = ⊥
+AreSetsOf q operator sets = ⊥
 
 -- of each candidate the sets stand at its place, if they were found
 abbrev pub AreSetsAt : Query → List PhysicalCandidate → List (Option JoinSets) → Type 0

@@ -1,7 +1,10 @@
 -- One candidate after the other.
-use Rattle.std.proofs.Common.{[], ℕ, ◌+◌, List, None, take, sym, subst}
+use Rattle.std.proofs.Common.{[], ℕ, ◌+◌, List, Option, None, get_or, take, sym, subst}
+use Rattle.std.specs.Prelude.{IfSome}
 use Rattle.std.proofs.lemmas.List.{take_all}
 use Rattle.query_core.specs.declared.words.KeyParts.{KeyParts}
+use Rattle.request_props.specs.JoinSets.{AreSetsOf}
+use Rattle.request_props.specs.declared.tables.join_sets.JoinSets.{JoinSets}
 use Rattle.request_props.specs.declared.tables.physical.PhysicalCandidate.{PhysicalCandidate}
 use Rattle.goal_board.specs.Seats.{hands}
 use Rattle.board_moves.proofs.Shown.{still_finished}
@@ -19,13 +22,13 @@ use Rattle.job_turns.proofs.Serving.{IsMemberGoalAmong, IsBestAmong, member_goal
 use Rattle.job_turns.proofs.Serving.{candidate_here, finds_more, member_goal_all, best_all}
 use Rattle.job_turns.proofs.members.best_member.Goals as goal
 
-pub physical_of-candidates-requires-clause-group : goal.physical_of-candidates-requires-clause-group
-physical_of-candidates-requires-clause-group g c =
+pub physical_of-requires-clause-group : goal.physical_of-requires-clause-group
+physical_of-requires-clause-group g c =
     c.goals_are_known.ensures.candidates c.args.search.now.query.now (Opt c.args.group c.args.wanted)
     c.requires.goal.is_goal
 
-pub loop-candidate-init : goal.loop-candidate-init
-loop-candidate-init g c =
+pub loop-place-init : goal.loop-place-init
+loop-place-init g c =
     let q = c.args.search.now.query.now in
     let group = c.args.group in
     let wanted = c.args.wanted in
@@ -39,72 +42,80 @@ loop-candidate-init g c =
 
 pub await_candidate-requires-clause-candidate : goal.await_candidate-requires-clause-candidate
 await_candidate-requires-clause-candidate g c =
-    candidate_here c.args.search.now.query.now c.args.group c.args.wanted c.physical_of-candidates.result.now
-    c.physical_of-candidates.ensures c.loop-candidate.candidate-index _ c.loop-candidate-test.true
+    candidate_here c.args.search.now.query.now c.args.group c.args.wanted c.physical_of.result.0.now
+    c.physical_of.ensures.candidates c.loop-place.place _ c.loop-place-test.true
+
+pub await_candidate-requires-clause-sets : goal.await_candidate-requires-clause-sets
+await_candidate-requires-clause-sets g c =
+    let q = c.args.search.now.query.now in
+    let candidates = c.physical_of.result.0.now in
+    let place = c.loop-place.place in
+    subst (λ (sets : Option JoinSets). IfSome sets (AreSetsOf q (get_or candidates place _).expr.operator))
+    (sym c.sets_at-sets.ensures) (c.physical_of.ensures.sets place _ c.loop-place-test.true)
 
 pub await_candidate-requires-clause-goal : goal.await_candidate-requires-clause-goal
 await_candidate-requires-clause-goal g c =
     let q = c.args.search.now.query.now in
-    of_candidate q c.args.group c.args.wanted c.physical_of-candidates.result.now c.physical_of-candidates.ensures
-    c.loop-candidate.candidate-index _ c.loop-candidate-test.true
-    (λ (x : KeyParts). NamesGoal q c.loop-candidate.turn.job.right.goal (Opt x c.args.wanted))
+    of_candidate q c.args.group c.args.wanted c.physical_of.result.0.now c.physical_of.ensures.candidates
+    c.loop-place.place _ c.loop-place-test.true
+    (λ (x : KeyParts). NamesGoal q c.loop-place.turn.job.right.goal (Opt x c.args.wanted))
     (subst (λ (word : ℕ). NamesGoal q word (Opt c.args.group c.args.wanted))
-    (sym c.loop-candidate.invariant.found.awaited.proceeds.same_goal) c.requires.goal)
+    (sym c.loop-place.invariant.found.awaited.proceeds.same_goal) c.requires.goal)
 
 pub await_candidate-requires-clause-implemented : goal.await_candidate-requires-clause-implemented
 await_candidate-requires-clause-implemented g c =
     let q = c.args.search.now.query.now in
     let capacity = c.args.search.now.board.now.setup.capacity in
-    let looks = (hands c.loop-candidate.turn.seat.now).looks in
-    of_candidate q c.args.group c.args.wanted c.physical_of-candidates.result.now c.physical_of-candidates.ensures
-    c.loop-candidate.candidate-index _ c.loop-candidate-test.true (IsImplemented q capacity looks) (record {
+    let looks = (hands c.loop-place.turn.seat.now).looks in
+    of_candidate q c.args.group c.args.wanted c.physical_of.result.0.now c.physical_of.ensures.candidates
+    c.loop-place.place _ c.loop-place-test.true (IsImplemented q capacity looks) (record {
       is_goal = c.requires.implemented.is_goal;
       finished = still_finished (meaning_of q) capacity (hands c.args.turn.now.seat.now).looks looks
           (later_proceeded (IsChildWord q c.args.turn.now.job.right.goal) (hands c.args.turn.now.seat.now)
           c.args.turn.now.job.right
-          (hands c.loop-candidate.turn.seat.now) c.loop-candidate.turn.job.right
-          c.loop-candidate.invariant.found.awaited.proceeds) (goal_word (Imp c.args.group))
+          (hands c.loop-place.turn.seat.now) c.loop-place.turn.job.right
+          c.loop-place.invariant.found.awaited.proceeds) (goal_word (Imp c.args.group))
           c.requires.implemented.finished;
     })
 
 pub returns-in_err-other-clause-chooses : goal.returns-in_err-other-clause-chooses
 returns-in_err-other-clause-chooses g c =
     let q = c.args.search.now.query.now in
-    let tried = take c.loop-candidate.candidate-index c.physical_of-candidates.result.now in
+    let tried = take c.loop-place.place c.physical_of.result.0.now in
     rw c.from_residual.ensures
     (chooses_none q c.args.search.now.board.now.setup.capacity (hands c.args.turn.now.seat.now)
     c.args.turn.now.job.right
     (IsMemberGoalAmong q c.args.group c.args.wanted tried) (IsBestAmong q c.args.group c.args.wanted tried)
-    c.loop-candidate.known_best
-    (hands c.loop-candidate.turn.seat.now) c.loop-candidate.turn.job.right (hands c.await_candidate.new.turn.seat.now)
-    c.await_candidate.new.turn.job.right c.loop-candidate.invariant.found c.in_err-other.ensures.chooses)
+    c.loop-place.known_best
+    (hands c.loop-place.turn.seat.now) c.loop-place.turn.job.right (hands c.await_candidate.new.turn.seat.now)
+    c.await_candidate.new.turn.job.right c.loop-place.invariant.found c.in_err-other.ensures.chooses)
 
-pub loop-candidate-preserved : goal.loop-candidate-preserved
-loop-candidate-preserved g c =
+pub loop-place-preserved : goal.loop-place-preserved
+loop-place-preserved g c =
     let q = c.args.search.now.query.now in
     let capacity = c.args.search.now.board.now.setup.capacity in
     let group = c.args.group in
     let wanted = c.args.wanted in
     let v = hands c.args.turn.now.seat.now in
     let start = c.args.turn.now.job.right in
-    let candidates = c.physical_of-candidates.result.now in
-    let i = c.loop-candidate.candidate-index in
+    let candidates = c.physical_of.result.0.now in
+    let i = c.loop-place.place in
     let after = c.await_candidate.new.turn.job.right in
     let w = hands c.await_candidate.new.turn.seat.now in
     let fits = c.goals_are_known.ensures.requests q (Opt group wanted) c.requires.goal.is_goal in
     record {
-      at_work = stays_then c.args.search.now c.args.turn.now c.loop-candidate.turn c.await_candidate.new.turn _ _
-          c.loop-candidate.invariant.at_work c.await_candidate.ensures.at_work;
+      at_work = stays_then c.args.search.now c.args.turn.now c.loop-place.turn c.await_candidate.new.turn _ _
+          c.loop-place.invariant.at_work c.await_candidate.ensures.at_work;
       found = subst (λ (known_best : KnownBest). FindsBest q capacity v start
           (IsMemberGoalAmong q group wanted (take (i + 1) candidates))
           (IsBestAmong q group wanted (take (i + 1) candidates)) known_best w after) (sym c.or-known_best.ensures)
-          (finds_more q group wanted candidates c.physical_of-candidates.ensures i _ c.loop-candidate-test.true
+          (finds_more q group wanted candidates c.physical_of.ensures.candidates i _ c.loop-place-test.true
           capacity v
           start (c.answers_are_best.ensures.lesser q) c.args.search.now.props.now c.requires.at_work.has_job.its.props fits
-          c.loop-candidate.known_best
+          c.loop-place.known_best
           c.in_ok-other.other
-          (hands c.loop-candidate.turn.seat.now) c.loop-candidate.turn.job.right w after
-          c.loop-candidate.invariant.found
+          (hands c.loop-place.turn.seat.now) c.loop-place.turn.job.right w after
+          c.loop-place.invariant.found
           c.in_ok-other.ensures.chooses);
     }
 
@@ -116,17 +127,17 @@ returns-clause-chooses g c =
     let wanted = c.args.wanted in
     let v = hands c.args.turn.now.seat.now in
     let start = c.args.turn.now.job.right in
-    let candidates = c.physical_of-candidates.result.now in
-    let tried = take c.loop-candidate.candidate-index candidates in
-    let w = hands c.loop-candidate.turn.seat.now in
-    let after = c.loop-candidate.turn.job.right in
+    let candidates = c.physical_of.result.0.now in
+    let tried = take c.loop-place.place candidates in
+    let w = hands c.loop-place.turn.seat.now in
+    let after = c.loop-place.turn.job.right in
     let found = subst (λ (list : List PhysicalCandidate).
     FindsBest q capacity v start (IsMemberGoalAmong q group wanted list) (IsBestAmong q group wanted list)
-    c.loop-candidate.known_best w after)
-    (take_all c.loop-candidate.candidate-index candidates c.loop-candidate-test.false)
-    c.loop-candidate.invariant.found in
+    c.loop-place.known_best w after)
+    (take_all c.loop-place.place candidates c.loop-place-test.false)
+    c.loop-place.invariant.found in
     finds_others q capacity v start (IsMemberGoalAmong q group wanted candidates) (IsMemberGoal q group wanted)
     (IsBestAmong q group wanted candidates) (IsBestOfMembers q group wanted)
-    (member_goal_all q group wanted (c.members_are_candidates.ensures q) candidates c.physical_of-candidates.ensures)
-    (best_all q group wanted (c.members_are_candidates.ensures q) candidates c.physical_of-candidates.ensures)
-    c.loop-candidate.known_best w after found
+    (member_goal_all q group wanted (c.members_are_candidates.ensures q) candidates c.physical_of.ensures.candidates)
+    (best_all q group wanted (c.members_are_candidates.ensures q) candidates c.physical_of.ensures.candidates)
+    c.loop-place.known_best w after found
