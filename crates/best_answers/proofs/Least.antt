@@ -10,14 +10,14 @@ use Rattle.query_core.specs.declared.expressions.PhysicalExpr.{PhysicalExpr}
 use Rattle.xform_rules.specs.Closure.{IsMember}
 use Rattle.request_props.specs.declared.request.Request.{Request}
 use Rattle.request_props.specs.Fitting.{Fits}
-use Rattle.plan_space.specs.Nodes.{number_of, Tree, code_of}
+use Rattle.plan_space.specs.Nodes.{node_number, Tree, code_of}
 use Rattle.plan_space.specs.declared.nodes.NodeKind.TheVariants as nodes
 use Rattle.plan_space.specs.declared.lines.Line.{Line}
 use Rattle.plan_space.specs.Enforcers.{EnforcedBy, enforcers_of, Among}
 use Rattle.plan_space.specs.Cost.{cost_of}
 use Rattle.plan_space.specs.Order.{AtMost, IsAtMost}
 use Rattle.plan_space.specs.Choices.{IsChoice, Beats}
-use Rattle.plan_space.specs.Choices.{IsEnforcerSettled, IsLineSettled, IsModeSettled}
+use Rattle.plan_space.specs.Choices.{BeatsEnforcer, BeatsLine, BeatsMode}
 use Rattle.plan_tree.specs.Seen.{root_node}
 use Rattle.best_answers.specs.Nodes.{Nodes, no_nodes, both_of, IsIn}
 use Rattle.best_answers.specs.Answers.{answer_of, is_lesser, lesser}
@@ -33,21 +33,21 @@ pub record AreOrdered (q : Query) : Type 0 where
   pub itself : (a : Tree) → IsAtMost q a a
   pub along : (a b c : Tree) → IsAtMost q a b → IsAtMost q b c → IsAtMost q a c
 
--- ---- what is settled stays so where the best gets better
+-- ---- what the best beats, a better one beats
 
 -- the other is at most whatever the first is at most
 abbrev Improves : Query → Option Tree → Option Tree → Type 0
 Improves q best other = (plan : Tree) → Beats q best plan → Beats q other plan
 
 enforcer_stays : (q : Query) (group : KeyParts) (e : EnforcedBy) (best other : Option Tree) → Improves q best other
-    → IsEnforcerSettled (IsMember q) q group e best
-    → IsEnforcerSettled (IsMember q) q group e other
+    → BeatsEnforcer (IsMember q) q group e best
+    → BeatsEnforcer (IsMember q) q group e other
 enforcer_stays q group e best other improves (inl (kid, least, beats)) = inl (kid, least, improves _ beats)
 enforcer_stays q group e best other improves (inr none) = inr none
 
 line_stays : (q : Query) (e : PhysicalExpr) (mode : ℕ) (line : Line) (wanted : Request) (best other : Option Tree)
     → Improves q best other
-    → IsLineSettled (IsMember q) q e mode line wanted best → IsLineSettled (IsMember q) q e mode line wanted other
+    → BeatsLine (IsMember q) q e mode line wanted best → BeatsLine (IsMember q) q e mode line wanted other
 line_stays q e mode line wanted best other improves (inl (kids, plan, least, is, beats)) =
     inl (kids, plan, least, is, improves plan beats)
 line_stays q e mode line wanted best other improves (inr lacks) = inr lacks
@@ -56,25 +56,25 @@ line_stays q e mode line wanted best other improves (inr lacks) = inr lacks
 
 module _ (q : Query) (told : AreTold q) (group : KeyParts) (wanted : Request) (order : AreOrdered q)
     (fits : Fits q group wanted) where
-  begins_less : (s t : Tree) → number_of (root_node s) < number_of (root_node t) → AtMost (code_of s) (code_of t)
+  begins_less : (s t : Tree) → node_number (root_node s) < node_number (root_node t) → AtMost (code_of s) (code_of t)
   begins_less s t less =
       let first = code_begins s in
       let second = code_begins t in
       subst (λ c. AtMost c (code_of t)) (sym first.1)
-      (subst (AtMost (number_of (root_node s) ∷ first.0)) (sym second.1) (inl less))
+      (subst (AtMost (node_number (root_node s) ∷ first.0)) (sym second.1) (inl less))
 
   -- a choice that costs the same at a node that isn't greater is at most the other
   begins_at_most : (s t : Tree) → IsChoice (IsMember q) q group wanted s → IsChoice (IsMember q) q group wanted t
       → cost_of q s ≡ cost_of q t
-      → number_of (root_node s) ≤ number_of (root_node t) → IsAtMost q s t
+      → node_number (root_node s) ≤ node_number (root_node t) → IsAtMost q s t
   begins_at_most s t x y cost most = elim (eq-or-lt_of_le most) [
     | inl same ↦ subst (IsAtMost q s) (sym (choice_one q told group wanted s t fits x y (sym same))) (order.itself s)
     | inr less ↦ inr (cost, begins_less s t less)
   ]
 
   lesser_at_most : (s t : Tree) → is_lesser (answer_of q s) (answer_of q t) ≡ true → IsAtMost q s t
-  lesser_at_most s t is = elim (less_by (cost_of q s) (number_of (root_node s)) (cost_of q t)
-      (number_of (root_node t)) is) [
+  lesser_at_most s t is = elim (less_by (cost_of q s) (node_number (root_node s)) (cost_of q t)
+      (node_number (root_node t)) is) [
         | inl less ↦ inl less
         | inr (same, less) ↦ inr (same, begins_less s t less)
       ]
@@ -82,8 +82,8 @@ module _ (q : Query) (told : AreTold q) (group : KeyParts) (wanted : Request) (o
   not_lesser_at_most : (s t : Tree) → IsChoice (IsMember q) q group wanted s → IsChoice (IsMember q) q group wanted t
       → is_lesser (answer_of q t) (answer_of q s) ≡ false
       → IsAtMost q s t
-  not_lesser_at_most s t x y is = elim (not_less_by (cost_of q t) (number_of (root_node t)) (cost_of q s)
-      (number_of (root_node s)) is) [
+  not_lesser_at_most s t x y is = elim (not_less_by (cost_of q t) (node_number (root_node t)) (cost_of q s)
+      (node_number (root_node s)) is) [
         | inl less ↦ inl less
         | inr (same, most) ↦ begins_at_most s t x y same most
       ]
@@ -100,12 +100,12 @@ module _ (q : Query) (told : AreTold q) (group : KeyParts) (wanted : Request) (o
     }
       where
         enforcers : (e : EnforcedBy) → Among e (enforcers_of wanted)
-            → IsIn (both_of some others) (nodes.Enforcer e.node) → IsEnforcerSettled (IsMember q) q group e best
+            → IsIn (both_of some others) (nodes.Enforcer e.node) → BeatsEnforcer (IsMember q) q group e best
         enforcers e among (inl within) = enforcer_stays q group e a best first (x.enforcers e among within)
         enforcers e among (inr within) = enforcer_stays q group e b best second (y.enforcers e among within)
 
         members : (e : PhysicalExpr) (mode : ℕ) → IsMember q (expr_of e) → e.group ≡ group
-            → IsIn (both_of some others) (nodes.Native e mode) → IsModeSettled (IsMember q) q wanted e mode best
+            → IsIn (both_of some others) (nodes.Native e mode) → BeatsMode (IsMember q) q wanted e mode best
         members e mode member of_group (inl within) line alternative =
             line_stays q e mode line wanted a best first (x.members e mode member of_group within line alternative)
         members e mode member of_group (inr within) line alternative =

@@ -7,7 +7,7 @@ use Rattle.query_core.specs.declared.words.KeyParts.{KeyParts}
 use Rattle.query_core.specs.declared.expressions.PhysicalExpr.{PhysicalExpr}
 use Rattle.xform_rules.specs.Closure.{IsMember}
 use Rattle.request_props.specs.declared.request.Request.{Request}
-use Rattle.plan_space.specs.Nodes.{number_of, Tree, over, code_of}
+use Rattle.plan_space.specs.Nodes.{node_number, Tree, over, code_of}
 use Rattle.plan_space.specs.declared.nodes.NodeKind.TheVariants as nodes
 use Rattle.plan_space.specs.declared.lines.Line.{Line}
 use Rattle.plan_space.specs.Alternatives.{IsAlternative, asked_of}
@@ -15,7 +15,7 @@ use Rattle.plan_space.specs.Enforcers.{EnforcedBy}
 use Rattle.plan_space.specs.Order.{AtMost, IsAtMost}
 use Rattle.plan_space.specs.Least.{IsLeast}
 use Rattle.plan_space.specs.Choices.{groups_of, AreLeast, IsNodeOver, IsChoice, enforced_choice, native_choice, Beats}
-use Rattle.plan_space.specs.Choices.{IsEnforcerSettled, LacksOne, IsLineSettled}
+use Rattle.plan_space.specs.Choices.{BeatsEnforcer, LacksOne, BeatsLine}
 use Rattle.plan_tree.specs.Seen.{root_node}
 use Rattle.best_answers.specs.Nodes.{Nodes, IsIn}
 use Rattle.best_answers.specs.Answers.{answer_of}
@@ -37,7 +37,7 @@ lacks_none q (group ∷ groups) (wanted ∷ wishes) (kid ∷ kids) least (inr la
 
 module _ (q : Query) (told : AreTold q) (group : KeyParts) (wanted : Request) where
   enforcer_beats : (best : Option Tree) (e : EnforcedBy) (kid : Tree) → IsLeast (IsMember q) q group e.below kid
-      → IsEnforcerSettled (IsMember q) q group e best
+      → BeatsEnforcer (IsMember q) q group e best
       → Beats q best (over (nodes.Enforcer e.node) kid)
   enforcer_beats best e kid least (inl (other, least_too, beats)) =
       subst (λ t. Beats q best (over (nodes.Enforcer e.node) t))
@@ -48,7 +48,7 @@ module _ (q : Query) (told : AreTold q) (group : KeyParts) (wanted : Request) wh
       → IsAlternative q e wanted mode line
       → AreLeast (IsMember q) q (groups_of (physical_children e.operator)) (asked_of line wanted) kids
       → IsNodeOver (nodes.Native e mode) kids plan
-      → IsLineSettled (IsMember q) q e mode line wanted best → Beats q best plan
+      → BeatsLine (IsMember q) q e mode line wanted best → Beats q best plan
   line_beats best e mode line kids plan alternative least is (inl (others, other, least_too, also, beats)) =
       subst (Beats q best) (native_one q told e mode wanted line line kids others plan other alternative alternative
       least least_too is also) beats
@@ -81,11 +81,12 @@ module _ (q : Query) (told : AreTold q) (group : KeyParts) (wanted : Request) wh
       let first = code_begins s in
       let second = code_begins t in
       let cost = x.0 in
-      let there = subst (λ c. AtMost c (number_of (root_node t) ∷ second.0)) first.1
+      let there = subst (λ c. AtMost c (node_number (root_node t) ∷ second.0)) first.1
       (subst (AtMost (code_of s)) second.1 x.1) in
-      let back = subst (λ c. AtMost c (number_of (root_node s) ∷ first.0)) second.1
+      let back = subst (λ c. AtMost c (node_number (root_node s) ∷ first.0)) second.1
       (subst (AtMost (code_of t)) first.1 y.1) in
-      let node = codes_begin_alike (number_of (root_node s)) (number_of (root_node t)) first.0 second.0 there back in
+      let node = codes_begin_alike (node_number (root_node s))
+      (node_number (root_node t)) first.0 second.0 there back in
       cc
 
   one_by : (set : Nodes) (a b : Option Tree) → IsLeastIn q group wanted set a → IsLeastIn q group wanted set b

@@ -10,7 +10,7 @@ use Rattle.xform_rules.specs.Closure.{IsMember}
 use Rattle.request_props.specs.Numbered.{lists_of, orders_of}
 use Rattle.request_props.specs.declared.request.Request.{Request}
 use Rattle.request_props.specs.Fitting.{Fits}
-use Rattle.plan_space.specs.Nodes.{number_of, Tree}
+use Rattle.plan_space.specs.Nodes.{node_number, Tree}
 use Rattle.plan_space.specs.declared.nodes.NodeKind.{NodeKind}
 use Rattle.plan_space.specs.declared.nodes.NodeKind.TheVariants as nodes
 use Rattle.plan_space.specs.declared.lines.Line.{Line}
@@ -31,7 +31,7 @@ pub record AreTold (q : Query) : Type 0 where
   pub few_orders : length (orders_of q) ≤ 60
   pub least_one : (group : KeyParts) (wanted : Request) (plan other : Tree) → IsLeast (IsMember q) q group wanted plan
       → IsLeast (IsMember q) q group wanted other → other ≡ plan
-  pub nodes_one : (a b : NodeKind) → IsNodeInRange a → IsNodeInRange b → number_of a ≡ number_of b → a ≡ b
+  pub nodes_one : (a b : NodeKind) → IsNodeInRange a → IsNodeInRange b → node_number a ≡ node_number b → a ≡ b
   pub few_modes : (e : PhysicalExpr) (mode : ℕ) (line : Line) → line_of q e mode ≡ Some line → mode < 192
   pub packed : (e : ExprParts) → IsMember q e → IsPacked e
 
@@ -134,7 +134,7 @@ module _ (q : Query) (told : AreTold q) where
     -- two choices with one number at the root are one
     pub choice_one : (plan other : Tree) → Fits q group wanted → IsChoice (IsMember q) q group wanted plan
         → IsChoice (IsMember q) q group wanted other
-        → number_of (root_node other) ≡ number_of (root_node plan) → other ≡ plan
+        → node_number (root_node other) ≡ node_number (root_node plan) → other ≡ plan
     choice_one plan other fits x y same =
         same_root plan other x y (told.nodes_one (root_node other) (root_node plan)
         (choice_in_range q told group wanted other fits y) (choice_in_range q told group wanted plan fits x) same)

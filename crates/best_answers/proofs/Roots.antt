@@ -1,13 +1,13 @@
 -- The node at the root of a plan.
 use Rattle.std.proofs.Common.{◌≡◌, ℕ, refl, subst, sym}
 use Rattle.std.specs.Prelude.{List, [], ◌∷◌, ◌++◌}
-use Rattle.plan_space.specs.Nodes.{number_of, Tree, leaf, over, two, code_of}
+use Rattle.plan_space.specs.Nodes.{node_number, Tree, leaf, over, two, code_of}
 use Rattle.plan_space.specs.declared.nodes.NodeKind.{NodeKind}
 use Rattle.plan_space.specs.Choices.{IsNodeOver}
 use Rattle.plan_tree.specs.Seen.{root_node}
 
 -- a plan's code begins with its root's number
-pub code_begins : (plan : Tree) → (others : List ℕ) × (code_of plan ≡ number_of (root_node plan) ∷ others)
+pub code_begins : (plan : Tree) → (others : List ℕ) × (code_of plan ≡ node_number (root_node plan) ∷ others)
 code_begins (leaf node) = ([], refl)
 code_begins (over node kid) = (code_of kid, refl)
 code_begins (two node left right) = (code_of left ++ code_of right, refl)

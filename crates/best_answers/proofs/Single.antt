@@ -19,7 +19,7 @@ use Rattle.plan_space.specs.Cost.{cost_of, shape_of, most_of_all}
 use Rattle.plan_space.specs.Least.{IsAnswer, IsLeast}
 use Rattle.plan_space.specs.Laws.{RequestsFit, ChoiceCostsFit}
 use Rattle.plan_space.specs.Choices.{groups_of, AreLeast, enforced_choice, native_choice}
-use Rattle.plan_space.specs.Choices.{IsEnforcerSettled, IsLineSettled, IsModeSettled}
+use Rattle.plan_space.specs.Choices.{BeatsEnforcer, BeatsLine, BeatsMode}
 use Rattle.plan_tree.specs.Costs.{IsNativeCost, IsEnforcerCost}
 use Rattle.plan_tree.specs.Seen.{root_node}
 use Rattle.best_answers.specs.Nodes.{one_node, all_nodes}
@@ -38,14 +38,14 @@ module _ (q : Query) (group : KeyParts) (wanted : Request) (e : EnforcedBy) (amo
   where
     -- the enforcer is the only node of the set
     only_enforcer : (plan : Option Tree) → IsChoiceIn q group wanted (one_node (nodes.Enforcer e.node)) plan
-        → IsEnforcerSettled (IsMember q) q group e plan
+        → BeatsEnforcer (IsMember q) q group e plan
         → IsLeastIn q group wanted (one_node (nodes.Enforcer e.node)) plan
-    only_enforcer plan choice settled = record {
+    only_enforcer plan choice beats = record {
       choice = choice;
       enforcers = λ f among_too within.
           let node : f.node ≡ e.node = cc in
-          subst (λ (x : EnforcedBy). IsEnforcerSettled (IsMember q) q group x plan)
-          (sym (same_enforcer wanted e f among among_too node)) settled;
+          subst (λ (x : EnforcedBy). BeatsEnforcer (IsMember q) q group x plan)
+          (sym (same_enforcer wanted e f among among_too node)) beats;
       members = λ f mode member of_group within. cc;
     }
 
@@ -85,24 +85,24 @@ module _ (q : Query) (e : PhysicalExpr) (mode : ℕ) (line : Line) (wanted : Req
     (alternative : IsAlternative q e wanted mode line) where
   -- the expression in the mode is the only node of the set
   only_mode : (plan : Option Tree) → IsChoiceIn q e.group wanted (one_node (nodes.Native e mode)) plan
-      → IsLineSettled (IsMember q) q e mode line wanted plan
+      → BeatsLine (IsMember q) q e mode line wanted plan
       → IsLeastIn q e.group wanted (one_node (nodes.Native e mode)) plan
-  only_mode plan choice settled = record {
+  only_mode plan choice beats = record {
     choice = choice;
     enforcers = λ f among within. cc;
-    members = λ f other member of_group within. is_settled f other within;
+    members = λ f other member of_group within. beats_each f other within;
   }
     where
-      is_settled : (f : PhysicalExpr) (other : ℕ) → nodes.Native f other ≡ nodes.Native e mode
-          → IsModeSettled (IsMember q) q wanted f other plan
-      is_settled f other within =
+      beats_each : (f : PhysicalExpr) (other : ℕ) → nodes.Native f other ≡ nodes.Native e mode
+          → BeatsMode (IsMember q) q wanted f other plan
+      beats_each f other within =
           let expr : e ≡ f = cc in
           let mode_is : mode ≡ other = cc in
-          let here : IsModeSettled (IsMember q) q wanted e mode plan = λ l also.
-          subst (λ m. IsLineSettled (IsMember q) q e mode m wanted plan)
-          (sym (same_line q e wanted mode line l alternative also)) settled in
-          subst (λ m. IsModeSettled (IsMember q) q wanted f m plan) mode_is
-          (subst (λ x. IsModeSettled (IsMember q) q wanted x mode plan) expr here)
+          let here : BeatsMode (IsMember q) q wanted e mode plan = λ l also.
+          subst (λ m. BeatsLine (IsMember q) q e mode m wanted plan)
+          (sym (same_line q e wanted mode line l alternative also)) beats in
+          subst (λ m. BeatsMode (IsMember q) q wanted f m plan) mode_is
+          (subst (λ x. BeatsMode (IsMember q) q wanted x mode plan) expr here)
 
   module _ (order : AreOrdered q) (member : IsMember q (expr_of e)) (local : ℕ)
       (cost : IsNativeCost q e mode wanted local) where

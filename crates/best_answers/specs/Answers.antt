@@ -4,7 +4,7 @@ use Rattle.std.specs.Prelude.{◌||◌, if◌then◌else◌}
 use Rattle.query_core.specs.declared.query.Query.{Query}
 use Rattle.query_core.specs.declared.words.Key.{Key}
 use Rattle.request_props.specs.declared.request.Request.{Request}
-use Rattle.plan_space.specs.Nodes.{number_of, Tree}
+use Rattle.plan_space.specs.Nodes.{node_number, Tree}
 use Rattle.plan_space.specs.Cost.{cost_of}
 use Rattle.plan_space.specs.declared.nodes.NodeKind.{NodeKind}
 use Rattle.plan_tree.specs.Seen.{root_node}
@@ -13,7 +13,7 @@ use Rattle.best_answers.specs.declared.best.Best.{Best}
 
 -- a cost, and the number of a node
 abbrev pub pair : ℕ → NodeKind → Best
-pair cost node = record { cost = cost; node = record { 0 = number_of node } }
+pair cost node = record { cost = cost; node = record { 0 = node_number node } }
 
 -- the answer that a plan is: its cost, and the number of the node at its root
 abbrev pub answer_of : Query → Tree → Best

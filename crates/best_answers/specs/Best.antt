@@ -12,7 +12,7 @@ use Rattle.request_props.specs.declared.request.Request.{Request}
 use Rattle.plan_space.specs.Nodes.{Tree}
 use Rattle.plan_space.specs.declared.nodes.NodeKind.TheVariants as nodes
 use Rattle.plan_space.specs.Enforcers.{EnforcedBy, enforcers_of, Among}
-use Rattle.plan_space.specs.Choices.{IsChoice, IsEnforcerSettled, IsModeSettled}
+use Rattle.plan_space.specs.Choices.{IsChoice, BeatsEnforcer, BeatsMode}
 use Rattle.plan_tree.specs.Seen.{root_node}
 use Rattle.plan_tree.specs.declared.alternatives.Alt.{Alt}
 use Rattle.plan_tree.specs.declared.enforcers.Enforced.{Enforced}
@@ -30,10 +30,10 @@ IsChoiceIn q group wanted set (Some plan) = IsChoice (IsMember q) q group wanted
 pub record IsLeastIn (q : Query) (group : KeyParts) (wanted : Request) (set : Nodes) (plan : Option Tree) : Type 0 where
   pub choice : IsChoiceIn q group wanted set plan
   pub enforcers : (e : EnforcedBy) → Among e (enforcers_of wanted) → IsIn set (nodes.Enforcer e.node)
-      → IsEnforcerSettled (IsMember q) q group e plan
+      → BeatsEnforcer (IsMember q) q group e plan
   pub members : (e : PhysicalExpr) (mode : ℕ) → IsMember q (expr_of e) → e.group ≡ group
       → IsIn set (nodes.Native e mode)
-      → IsModeSettled (IsMember q) q wanted e mode plan
+      → BeatsMode (IsMember q) q wanted e mode plan
 
 -- the answer is that of the least choice with a root in the set, or none where there is no such choice
 abbrev pub IsBest : Query → KeyParts → Request → Nodes → Option Best → Type 0

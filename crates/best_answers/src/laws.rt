@@ -7,7 +7,7 @@ ghost use Rattle.best_answers.specs.Laws.{EnforcerIsBest, LesserIsBest, ModeIsBe
 ghost use Rattle.best_answers.specs.Laws.{RootsHaveNumbers};
 
 use plan_space::{
-    choices_serve, costs_fit, least_is_one, modes_are_few, plans_are_ordered, settled_is_least,
+    best_of_all_is_least, choices_serve, costs_fit, least_is_one, modes_are_few, plans_are_ordered,
     what_is_asked_fits,
 };
 use plan_tree::nodes_are_one;
@@ -44,5 +44,5 @@ pub fn best_is_least()
     ensures { (q : Query) → BestIsLeast q }
 {
     choices_serve();
-    settled_is_least();
+    best_of_all_is_least();
 }

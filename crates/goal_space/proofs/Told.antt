@@ -13,7 +13,7 @@ use Rattle.plan_space.specs.declared.nodes.NodeKind.TheVariants as nodes
 use Rattle.plan_space.specs.Least.{Serves}
 use Rattle.plan_space.specs.Choices.{IsNodeOver, IsChoice, enforced_choice, native_choice}
 use Rattle.plan_space.specs.Choices.{ServesAtRoot, BestServesAtRoot, IsAnswerAtRoot}
-use Rattle.plan_space.specs.Laws.{ChoicesServe, SettledRootsAreLeast}
+use Rattle.plan_space.specs.Laws.{ChoicesServe, BestAtRootIsLeast}
 use Rattle.plan_tree.specs.Seen.{root_node}
 use Rattle.plan_tree.specs.declared.answers.Answered.{Answered}
 use Rattle.best_answers.specs.Nodes.{modes_of, IsModeOf}
@@ -67,7 +67,7 @@ module _ (q : Query) (e : PhysicalExpr) where
         serves = serves;
       }
 
-  module _ (serve : ChoicesServe q) (settled : SettledRootsAreLeast q) (member : IsMember q (expr_of e)) where
+  module _ (serve : ChoicesServe q) (is_least : BestAtRootIsLeast q) (member : IsMember q (expr_of e)) where
     best_at_root : (wanted : Request) (best : Option Tree) → Fits q e.group wanted
         → IsChoiceIn q e.group wanted (modes_of e) best → BestServesAtRoot (IsMember q) q e wanted best
     best_at_root wanted None fits chosen = tt
@@ -81,7 +81,7 @@ module _ (q : Query) (e : PhysicalExpr) where
         × (answer ≡ option_map (answer_of q) plan)
     told_at_root wanted answer fits (best, least, is) = (
       best,
-      settled e wanted best fits (best_at_root wanted best fits least.choice)
+      is_least e wanted best fits (best_at_root wanted best fits least.choice)
           (λ mode. least.members e mode member refl refl),
       is,
     )

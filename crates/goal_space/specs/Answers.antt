@@ -5,7 +5,7 @@ use Rattle.std.specs.List.{All, Contains}
 use Rattle.std.specs.List.Sorted.{IsStrictlyIncreasing}
 use Rattle.query_core.specs.declared.query.Query.{Query}
 use Rattle.xform_rules.specs.Closure.{IsMember}
-use Rattle.plan_space.specs.Nodes.{number_of, Tree}
+use Rattle.plan_space.specs.Nodes.{node_number, Tree}
 use Rattle.plan_space.specs.Cost.{cost_of}
 use Rattle.plan_space.specs.Least.{IsAnswer}
 use Rattle.plan_space.specs.Choices.{IsAnswerAtRoot}
@@ -67,7 +67,7 @@ pub record TellsNoChoice (told : Answered) : Type 0 where
 -- the plan's cost is told, and the number of the node at its root; of no plan no cost, and the number 0
 pub record TellsPlan (q : Query) (told : Answered) (plan : Option Tree) : Type 0 where
   pub cost : told.cost ≡ option_map (cost_of q) plan
-  pub node : told.node.0 ≡ option_map_or (λ tree. number_of (root_node tree)) plan 0
+  pub node : told.node.0 ≡ option_map_or (λ tree. node_number (root_node tree)) plan 0
 
 -- what is told of a goal: of a group and a request the least plan of all, and of an expression and a request the least
 -- of those with the expression at the root; none is told exactly where there is no such plan

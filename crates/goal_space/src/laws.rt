@@ -7,7 +7,7 @@ ghost use Rattle.goal_space.specs.Laws.{GoalRequestsFit, GoalsHaveWords, AskedAr
 ghost use Rattle.goal_space.specs.Laws.{AnswersAreLeast};
 
 use best_answers::best_is_least;
-use plan_space::{choices_serve, root_request_fits, settled_roots_are_least, what_is_asked_fits};
+use plan_space::{best_at_root_is_least, choices_serve, root_request_fits, what_is_asked_fits};
 use query_core::{candidates_are_known, groups_are_known};
 use xform_rules::{members_are_candidates, results_are_known};
 
@@ -47,9 +47,9 @@ pub fn goals_ask_for_members()
 pub fn answers_are_least()
     ensures { (q : Query) → AnswersAreLeast q }
 {
-    // For the proof: goals are about members and their requests fit, and what is settled is least.
+    // For the proof: goals are about members and their requests fit, and what beats all is least.
     goals_are_known();
     best_is_least();
     choices_serve();
-    settled_roots_are_least();
+    best_at_root_is_least();
 }

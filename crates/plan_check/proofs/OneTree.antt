@@ -4,7 +4,7 @@ use Rattle.std.specs.List.{All}
 use Rattle.std.proofs.lemmas.List.Elements.{All-head, All-tail}
 use Rattle.query_core.specs.declared.query.Query.{Query}
 use Rattle.plan_space.specs.declared.nodes.NodeKind.{NodeKind}
-use Rattle.plan_space.specs.Nodes.{Tree, leaf, over, two, number_of}
+use Rattle.plan_space.specs.Nodes.{Tree, leaf, over, two, node_number}
 use Rattle.plan_tree.specs.Nodes.{IsNodeInRange}
 use Rattle.plan_tree.specs.Spells.{Spells}
 use Rattle.plan_tree.specs.declared.plan.Plan.{Plan}
@@ -28,7 +28,7 @@ known_all q (Two' node pointer left pointer' right) all =
 
 -- no two nodes in range have one number
 abbrev pub NodesAreOne : Type 0
-NodesAreOne = (k l : NodeKind) → IsNodeInRange k → IsNodeInRange l → number_of k ≡ number_of l → k ≡ l
+NodesAreOne = (k l : NodeKind) → IsNodeInRange k → IsNodeInRange l → node_number k ≡ node_number l → k ≡ l
 
 -- a plan is one tree
 pub one_tree : NodesAreOne → (plan : Plan) (tree other : Tree) → Spells plan tree → Spells plan other → tree ≡ other

@@ -12,11 +12,11 @@ use Rattle.request_props.specs.declared.request.Request.{Request}
 use Rattle.request_props.specs.Fitting.{Fits}
 use Rattle.plan_space.specs.declared.nodes.Enforcer.{Enforcer}
 use Rattle.plan_space.specs.declared.nodes.NodeKind.TheVariants as nodes
-use Rattle.plan_space.specs.Nodes.{number_of, Tree, over}
+use Rattle.plan_space.specs.Nodes.{node_number, Tree, over}
 use Rattle.plan_space.specs.Gives.{kid_of}
 use Rattle.plan_space.specs.Cost.{shape_of, most_of_all}
 use Rattle.plan_space.specs.Enforcers.{EnforcedBy, enforcers_of, Among}
-use Rattle.plan_space.specs.Choices.{Beats, IsEnforcerSettled, enforced_choice}
+use Rattle.plan_space.specs.Choices.{Beats, BeatsEnforcer, enforced_choice}
 use Rattle.plan_space.proofs.Enforcers.{among_at, first_or_second}
 use Rattle.plan_space.specs.Laws.{ChoicesServe, EnforcersAskWhatFits, LeastCostsFit}
 use Rattle.plan_tree.proofs.Kept.{enforcer_in_range}
@@ -30,7 +30,7 @@ use Rattle.plan_search.specs.declared.choice.Choice.{Choice}
 use Rattle.plan_search.specs.Places.{place_of}
 use Rattle.plan_search.specs.KeptPlans.{IsAnswered, AreAnswered, kept_at, cost_at, IsPlanAt}
 use Rattle.plan_search.specs.BestSoFar.{IsChosen, choice_over, cheaper_of, GoesOverPlace, GoesOverEnforcers}
-use Rattle.plan_search.specs.BestSoFar.{IsPlaceSettled, AreEnforcersSettled, enforcer_number}
+use Rattle.plan_search.specs.BestSoFar.{BeatsPlace, BeatsEnforcers, number_at_place}
 use Rattle.plan_search.proofs.EnforcerNumbers.{next_number_at, two_numbers}
 use Rattle.plan_search.proofs.RequestPlaces.{enforcer_before}
 use Rattle.plan_search.proofs.Answered.{none_case, some_case, cost_small}
@@ -41,11 +41,11 @@ use Rattle.plan_search.proofs.Scanning.{enforcer_stable}
 pub record IsBelow (q : Query) (group : KeyParts) (wanted : Request) (e : EnforcedBy) : Type 0 where
   pub place : place_of group e.below < place_of group wanted
   pub in_range : kinds.EnforcerInRange e.node
-  pub small : number_of (nodes.Enforcer e.node) < 2 ^ 56
+  pub small : node_number (nodes.Enforcer e.node) < 2 ^ 56
 
 module _ (q : Query) (props : Props) (is_props : IsProps q props) (group : KeyParts) where
   -- an enforcer that a number names has a number below those of expressions
-  named_small : (e : Enforcer) → kinds.EnforcerInRange e → number_of (nodes.Enforcer e) < 2 ^ 56
+  named_small : (e : Enforcer) → kinds.EnforcerInRange e → node_number (nodes.Enforcer e) < 2 ^ 56
   named_small e in_range = omega (arith, enforcer_small e in_range)
 
   pub below_facts : (wanted : Request) (e : EnforcedBy) → Fits q group wanted → Among e (enforcers_of wanted)
@@ -59,15 +59,15 @@ module _ (q : Query) (props : Props) (is_props : IsProps q props) (group : KeyPa
       }
 
 module _ (q : Query) (answers : KeptPlans) (group : KeyParts) (wanted : Request) where
-  pub place_stable : (n : ℕ) → IsStable q (IsPlaceSettled q group wanted n)
-  place_stable n best other improves settled e is = enforcer_stable q group e best other improves (settled e is)
+  pub place_stable : (n : ℕ) → IsStable q (BeatsPlace q group wanted n)
+  place_stable n best other improves beats e is = enforcer_stable q group e best other improves (beats e is)
 
   -- the two places are all
-  pub both_settled : (best : Option Tree) → IsPlaceSettled q group wanted 0 best × IsPlaceSettled q group wanted 1 best
-      → AreEnforcersSettled q group (enforcers_of wanted) best
-  both_settled best settled e among =
-      ⊎_elim (λ (first : slice_get (enforcers_of wanted) 0 ≡ Some e). settled.0 e first)
-      (λ (second : slice_get (enforcers_of wanted) 1 ≡ Some e). settled.1 e second)
+  pub beats_both : (best : Option Tree) → BeatsPlace q group wanted 0 best × BeatsPlace q group wanted 1 best
+      → BeatsEnforcers q group (enforcers_of wanted) best
+  beats_both best beats e among =
+      ⊎_elim (λ (first : slice_get (enforcers_of wanted) 0 ≡ Some e). beats.0 e first)
+      (λ (second : slice_get (enforcers_of wanted) 1 ≡ Some e). beats.1 e second)
       (first_or_second wanted e among)
 
   -- both places, one after the other
@@ -75,15 +75,15 @@ module _ (q : Query) (answers : KeptPlans) (group : KeyParts) (wanted : Request)
       → GoesOverPlace q answers group wanted 1 new newer
       → GoesOverEnforcers q answers group wanted old newer
   both_go old new newer first second =
-      goes_from q answers group wanted 0 (enforcer_number wanted 0) (2 ^ 56)
-      (AreEnforcersSettled q group (enforcers_of wanted)) old newer (omega arith)
-      (goes_to q answers group wanted (enforcer_number wanted 0) (enforcer_number wanted 2) (2 ^ 56)
-      (AreEnforcersSettled q group (enforcers_of wanted)) old newer (two_numbers wanted)
-      (goes_as q answers group wanted (enforcer_number wanted 0) (enforcer_number wanted 2)
-      (λ best. IsPlaceSettled q group wanted 0 best × IsPlaceSettled q group wanted 1 best)
-      (AreEnforcersSettled q group (enforcers_of wanted)) old newer both_settled
-      (goes_on q answers group wanted (enforcer_number wanted 0) (enforcer_number wanted 1) (enforcer_number wanted 2)
-      (IsPlaceSettled q group wanted 0) (IsPlaceSettled q group wanted 1)
+      goes_from q answers group wanted 0 (number_at_place wanted 0) (2 ^ 56)
+      (BeatsEnforcers q group (enforcers_of wanted)) old newer (omega arith)
+      (goes_to q answers group wanted (number_at_place wanted 0) (number_at_place wanted 2) (2 ^ 56)
+      (BeatsEnforcers q group (enforcers_of wanted)) old newer (two_numbers wanted)
+      (goes_as q answers group wanted (number_at_place wanted 0) (number_at_place wanted 2)
+      (λ best. BeatsPlace q group wanted 0 best × BeatsPlace q group wanted 1 best)
+      (BeatsEnforcers q group (enforcers_of wanted)) old newer beats_both
+      (goes_on q answers group wanted (number_at_place wanted 0) (number_at_place wanted 1) (number_at_place wanted 2)
+      (BeatsPlace q group wanted 0) (BeatsPlace q group wanted 1)
       old new newer (place_stable 0) first second)))
 
   module _ (props : Props) (is_props : IsProps q props) (known : IsGroup q group) (fits : Fits q group wanted)
@@ -102,14 +102,14 @@ module _ (q : Query) (answers : KeptPlans) (group : KeyParts) (wanted : Request)
       pub below_answered : IsAnswered q answers group e.below
       below_answered = answered group e.below known below_fits facts.place
 
-      numbers : (enforcer_number wanted n ≡ number_of (nodes.Enforcer e.node))
-          × (number_of (nodes.Enforcer e.node) + 1 ≤ enforcer_number wanted (n + 1))
+      numbers : (number_at_place wanted n ≡ node_number (nodes.Enforcer e.node))
+          × (node_number (nodes.Enforcer e.node) + 1 ≤ number_at_place wanted (n + 1))
       numbers = next_number_at wanted n e (omega (arith, fits.numbered, is_props.few_orders)) is_at facts.small
 
-      only_this : (best : Option Tree) → IsEnforcerSettled (IsMember q) q group e best
-          → IsPlaceSettled q group wanted n best
-      only_this best settled other is = let same : Some e ≡ Some other = sym is_at ∙ is in let equal : e ≡ other = cc in
-          subst (λ x. IsEnforcerSettled (IsMember q) q group x best) equal settled
+      only_this : (best : Option Tree) → BeatsEnforcer (IsMember q) q group e best
+          → BeatsPlace q group wanted n best
+      only_this best beats other is = let same : Some e ≡ Some other = sym is_at ∙ is in let equal : e ≡ other = cc in
+          subst (λ x. BeatsEnforcer (IsMember q) q group x best) equal beats
 
       -- the plan below costs no more than any plan
       pub below_small : LeastCostsFit q → cost_at answers (place_of group e.below) ≤ most_of_all
@@ -119,8 +119,8 @@ module _ (q : Query) (answers : KeptPlans) (group : KeyParts) (wanted : Request)
       pub lacking_goes : (best : Option Choice) → kept_at answers (place_of group e.below) ≡ None
           → GoesOverPlace q answers group wanted n best best
       lacking_goes best none =
-          goes_not q answers group wanted (enforcer_number wanted n) (enforcer_number wanted (n + 1))
-          (IsPlaceSettled q group wanted n) best (omega (arith, numbers.0, numbers.1))
+          goes_not q answers group wanted (number_at_place wanted n) (number_at_place wanted (n + 1))
+          (BeatsPlace q group wanted n) best (omega (arith, numbers.0, numbers.1))
           (λ tree. only_this tree (inr (none_case q answers group e.below below_answered none)))
 
       -- the enforcer is offered over the plan for what it asks
@@ -144,14 +144,16 @@ module _ (q : Query) (answers : KeptPlans) (group : KeyParts) (wanted : Request)
             serves = serve group wanted plan fits (enforced_choice e kid among holds.least refl);
             cost = omega (arith, local_is, holds.cost);
           }) in
-          goes_from q answers group wanted (enforcer_number wanted n) (number_of (nodes.Enforcer e.node))
-          (enforcer_number wanted (n + 1)) (IsPlaceSettled q group wanted n) old (Some (cheaper_of old choice))
+          goes_from q answers group wanted (number_at_place wanted n) (node_number (nodes.Enforcer e.node))
+          (number_at_place wanted (n + 1)) (BeatsPlace q group wanted n) old (Some (cheaper_of old choice))
           (omega (arith, numbers.0))
-          (goes_to q answers group wanted (number_of (nodes.Enforcer e.node)) (number_of (nodes.Enforcer e.node) + 1)
-          (enforcer_number wanted (n + 1)) (IsPlaceSettled q group wanted n) old (Some (cheaper_of old choice))
+          (goes_to q answers group wanted (node_number (nodes.Enforcer e.node))
+          (node_number (nodes.Enforcer e.node) + 1)
+          (number_at_place wanted (n + 1)) (BeatsPlace q group wanted n) old (Some (cheaper_of old choice))
           numbers.1
-          (goes_as q answers group wanted (number_of (nodes.Enforcer e.node)) (number_of (nodes.Enforcer e.node) + 1)
-          (λ best. Beats q best plan) (IsPlaceSettled q group wanted n) old (Some (cheaper_of old choice))
+          (goes_as q answers group wanted (node_number (nodes.Enforcer e.node))
+          (node_number (nodes.Enforcer e.node) + 1)
+          (λ best. Beats q best plan) (BeatsPlace q group wanted n) old (Some (cheaper_of old choice))
           (λ best beats. only_this best (inl (kid, holds.least, beats)))
-          (goes_by_one q answers group wanted order (number_of (nodes.Enforcer e.node)) (nodes.Enforcer e.node) choice
+          (goes_by_one q answers group wanted order (node_number (nodes.Enforcer e.node)) (nodes.Enforcer e.node) choice
           plan old chosen refl)))

@@ -19,8 +19,8 @@ use Rattle.request_props.specs.Fitting.{Fits}
 use Rattle.plan_space.specs.Nodes.{Tree}
 use Rattle.plan_space.specs.Least.{HasNoPlan}
 use Rattle.plan_space.specs.Enforcers.{enforcers_of}
-use Rattle.plan_space.specs.Choices.{BestServes, IsModeSettled}
-use Rattle.plan_space.specs.Laws.{SettledIsLeast}
+use Rattle.plan_space.specs.Choices.{BestServes, BeatsMode}
+use Rattle.plan_space.specs.Laws.{BestOfAllIsLeast}
 use Rattle.plan_search.proofs.Answered.{none_case, some_case}
 use Rattle.plan_search.specs.declared.kept_plans.KeptPlans.{KeptPlans}
 use Rattle.plan_search.specs.declared.choice.Choice.{Choice}
@@ -28,8 +28,8 @@ use Rattle.plan_search.specs.declared.native.NativeNode.{NativeNode}
 use Rattle.plan_search.specs.Places.{DISTS, ORDERS, dist_place, request_place, first_place, place_of}
 use Rattle.plan_search.specs.KeptPlans.{kept_at, IsKept, IsAnswerFor, IsAnswered, answer_at, AreAnswered}
 use Rattle.plan_search.specs.Natives.{AreListedFor, HasMode}
-use Rattle.plan_search.specs.BestSoFar.{IsBestChoice, IsBestSoFar, GoesOverEnforcers, GoesOverAll, AreEnforcersSettled}
-use Rattle.plan_search.specs.BestSoFar.{AreSettledIn}
+use Rattle.plan_search.specs.BestSoFar.{IsBestChoice, IsBestSoFar, GoesOverEnforcers, GoesOverAll, BeatsEnforcers}
+use Rattle.plan_search.specs.BestSoFar.{BeatsModes}
 use Rattle.plan_search.proofs.RequestPlaces.{request_small, dist_is_one}
 use Rattle.plan_search.proofs.Able.{serves_gives}
 use Rattle.plan_search.proofs.Standing.{stands_on, built_stands}
@@ -45,26 +45,26 @@ module _ (q : Query) (answers : KeptPlans) (group : KeyParts) (wanted : Request)
   best_serves (Some choice) None is = absurd is
   best_serves (Some choice) (Some tree) (node, chosen) = chosen.serves
 
-  enforcers_stable : IsStable q (AreEnforcersSettled q group (enforcers_of wanted))
-  enforcers_stable best other improves settled e among = enforcer_stable q group e best other improves (settled e among)
+  enforcers_stable : IsStable q (BeatsEnforcers q group (enforcers_of wanted))
+  enforcers_stable best other improves beats e among = enforcer_stable q group e best other improves (beats e among)
 
-  -- a mode that the list has is settled
-  settled_at : (list : List NativeNode) (best : Option Tree) (e : PhysicalExpr) (mode : ℕ)
-      → AreSettledIn q wanted list best
+  -- the best beats a mode that the list has
+  beats_at : (list : List NativeNode) (best : Option Tree) (e : PhysicalExpr) (mode : ℕ)
+      → BeatsModes q wanted list best
       → HasMode e mode list
-      → IsModeSettled (IsMember q) q wanted e mode best
-  settled_at list best e mode settled (p, among, is_expr, is_mode) =
-      subst (λ f. IsModeSettled (IsMember q) q wanted f mode best) is_expr
-      (subst (λ m. IsModeSettled (IsMember q) q wanted p.expr m best) is_mode (settled p among))
+      → BeatsMode (IsMember q) q wanted e mode best
+  beats_at list best e mode beats (p, among, is_expr, is_mode) =
+      subst (λ f. BeatsMode (IsMember q) q wanted f mode best) is_expr
+      (subst (λ m. BeatsMode (IsMember q) q wanted p.expr m best) is_mode (beats p among))
 
   -- once all nodes are offered, the best is the least plan, and where there is none there is no plan
-  pub best_is_answer : (list : List NativeNode) (some all : Option Choice) → SettledIsLeast q → Fits q group wanted
+  pub best_is_answer : (list : List NativeNode) (some all : Option Choice) → BestOfAllIsLeast q → Fits q group wanted
       → AreListedFor q group wanted.dist list
       → GoesOverEnforcers q answers group wanted None some → GoesOverAll q answers group wanted list some all
       → IsBestChoice q answers group wanted all
   best_is_answer list some all least fits listed first second =
-      let both = goes_on q answers group wanted 0 (2 ^ 56) (2 ^ 57) (AreEnforcersSettled q group (enforcers_of wanted))
-      (AreSettledIn q wanted list) None some all enforcers_stable first second None tt tt in
+      let both = goes_on q answers group wanted 0 (2 ^ 56) (2 ^ 57) (BeatsEnforcers q group (enforcers_of wanted))
+      (BeatsModes q wanted list) None some all enforcers_stable first second None tt tt in
       let best = both.0 in (
         best,
         both.1.is_best,
@@ -72,7 +72,7 @@ module _ (q : Query) (answers : KeptPlans) (group : KeyParts) (wanted : Request)
           best_serves = best_serves all best both.1.is_best;
           enforcers = both.1.done.0;
           members = λ e mode member of_group line alternative.
-              settled_at list best e mode both.1.done.1
+              beats_at list best e mode both.1.done.1
               (listed.complete e mode line member of_group alternative.is_line
               (serves_gives q line (physical_children e.operator) wanted alternative.serves)) line alternative;
         }),

@@ -6,7 +6,7 @@ use Rattle.query_core.specs.declared.query.Query.{Query}
 use Rattle.query_core.specs.declared.expressions.PhysicalExpr.{PhysicalExpr}
 use Rattle.query_core.specs.Expressions.{expr_of, word_of}
 use Rattle.plan_space.specs.declared.nodes.NodeKind.TheVariants as nodes
-use Rattle.plan_space.specs.Nodes.{number_of}
+use Rattle.plan_space.specs.Nodes.{node_number}
 use Rattle.plan_space.specs.Lines.{line_of}
 use Rattle.plan_tree.specs.Costs.{AreRowsOf}
 use Rattle.plan_tree.specs.Walks.{AreNone}
@@ -29,7 +29,7 @@ module _ (q : Query) (e : PhysicalExpr) where
   are_behind bound (first ∷ others) p are is = (are.0, are_behind bound others p are.1 is)
 
   numbers_below : (bound : ℕ) (list : List NativeNode) → AreInModes q e bound list
-      → AreBelow (number_of (nodes.Native e bound)) list
+      → AreBelow (node_number (nodes.Native e bound)) list
   numbers_below bound [] are = tt
   numbers_below bound (p ∷ ps) are = let number : word_of (expr_of p.expr) ≡ word_of (expr_of e) =
       ap (λ x. word_of (expr_of x)) are.0.expr in (omega (arith, number, are.0.below), numbers_below bound ps are.1)
@@ -39,8 +39,9 @@ module _ (q : Query) (e : PhysicalExpr) where
     pub mode_pushed : (p : NativeNode) → p.expr ≡ e → p.mode ≡ m → line_of q e m ≡ Some p.line → AreRowsOf q e p.rows
         → AreModesOf q e (m + 1) (modes ++ p ∷ [])
     mode_pushed p is_expr is_mode is_line rows =
-        let number : mode_number p ≡ number_of (nodes.Native e m) = ap (λ x. number_of (nodes.Native x p.mode)) is_expr
-        ∙ ap (λ n. number_of (nodes.Native e n)) is_mode in
+        let number : mode_number p ≡ node_number (nodes.Native e m) =
+        ap (λ x. node_number (nodes.Native x p.mode)) is_expr
+        ∙ ap (λ n. node_number (nodes.Native e n)) is_mode in
         record {
           are = are_behind (m + 1) modes p (are_more m (m + 1) modes (omega arith) so_far.are)
               (record {
@@ -49,7 +50,7 @@ module _ (q : Query) (e : PhysicalExpr) where
                 line = ap (λ n. line_of q e n) is_mode ∙ is_line;
                 rows = rows;
               });
-          rises = rises_push (number_of (nodes.Native e 0)) modes p (omega (arith, number)) so_far.rises
+          rises = rises_push (node_number (nodes.Native e 0)) modes p (omega (arith, number)) so_far.rises
               (subst (λ n. AreBelow n modes) (sym number) (numbers_below m modes so_far.are));
           complete = λ mode line less has. elim (cases_eq mode m) [
             | inl same ↦ (p, in_end modes p, is_expr, is_mode ∙ sym same)

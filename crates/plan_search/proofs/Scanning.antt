@@ -11,10 +11,10 @@ use Rattle.xform_rules.specs.Closure.{IsMember}
 use Rattle.plan_space.specs.Enforcers.{EnforcedBy}
 use Rattle.plan_space.specs.declared.nodes.NodeKind.{NodeKind}
 use Rattle.plan_space.specs.declared.nodes.NodeKind.TheVariants as nodes
-use Rattle.plan_space.specs.Nodes.{number_of, Tree, leaf, over, two, code_of}
+use Rattle.plan_space.specs.Nodes.{node_number, Tree, leaf, over, two, code_of}
 use Rattle.plan_space.specs.Cost.{cost_of}
 use Rattle.plan_space.specs.Order.{AtMost, IsAtMost}
-use Rattle.plan_space.specs.Choices.{Beats, IsModeSettled, IsEnforcerSettled}
+use Rattle.plan_space.specs.Choices.{Beats, BeatsMode, BeatsEnforcer}
 use Rattle.plan_search.specs.declared.choice.KidPlaces.{KidPlaces}
 use Rattle.plan_search.specs.declared.choice.KidPlaces.TheVariants as kids
 use Rattle.plan_search.specs.declared.kept_plans.KeptPlans.{KeptPlans}
@@ -185,7 +185,7 @@ module _ (q : Query) where
 
 -- the number at the root of a plan that is built so
 pub built_root : (answers : KeptPlans) (bound : ℕ) (below : KidPlaces) (node : NodeKind) (tree : Tree)
-    → IsBuilt answers bound below node tree → root_number tree ≡ number_of node
+    → IsBuilt answers bound below node tree → root_number tree ≡ node_number node
 built_root answers bound kids.Zero node tree is = ap root_number is
 built_root answers bound (kids.One place) node tree (kid, before, stands, is) = ap root_number is
 built_root answers bound (kids.Two first second) node tree (left, right, before, other_before, stands, also, is) =
@@ -195,27 +195,27 @@ module _ (q : Query) (order : IsOrder q) (answers : KeptPlans) where
   -- a member in a mode is offered, over least plans
   pub made_goes : (e : PhysicalExpr) (wanted : Request) (mode : ℕ) (choice : Choice) (old : Option Choice)
       → IsMade q answers wanted e mode choice
-      → Goes q answers e.group wanted (number_of (nodes.Native e mode)) (number_of (nodes.Native e mode) + 1)
-      (IsModeSettled (IsMember q) q wanted e mode) old (Some (cheaper_of old choice))
+      → Goes q answers e.group wanted (node_number (nodes.Native e mode)) (node_number (nodes.Native e mode) + 1)
+      (BeatsMode (IsMember q) q wanted e mode) old (Some (cheaper_of old choice))
   made_goes e wanted mode choice old (tree, chosen, least) =
       let node = nodes.Native e mode in
-      goes_as q answers e.group wanted (number_of node) (number_of node + 1) (λ best. Beats q best tree)
-      (IsModeSettled (IsMember q) q wanted e mode) old (Some (cheaper_of old choice))
+      goes_as q answers e.group wanted (node_number node) (node_number node + 1) (λ best. Beats q best tree)
+      (BeatsMode (IsMember q) q wanted e mode) old (Some (cheaper_of old choice))
       (λ best beats line alternative. let over_kids = least line alternative in
       inl (over_kids.0, tree, over_kids.1, over_kids.2, beats))
-      (goes_by_one q answers e.group wanted order (number_of node) node choice tree old chosen
+      (goes_by_one q answers e.group wanted order (node_number node) node choice tree old chosen
       (built_root answers (place_of e.group wanted) choice.kids node tree chosen.built))
 
--- what is settled stays so with a better plan
+-- what the best beats, a better plan beats
 pub mode_stable : (q : Query) (wanted : Request) (e : PhysicalExpr) (mode : ℕ)
-    → IsStable q (IsModeSettled (IsMember q) q wanted e mode)
-mode_stable q wanted e mode best other improves settled line alternative = elim (settled line alternative) [
+    → IsStable q (BeatsMode (IsMember q) q wanted e mode)
+mode_stable q wanted e mode best other improves beats line alternative = elim (beats line alternative) [
   | inl (plans, plan, least, over_plans, beats) ↦ inl (plans, plan, least, over_plans, improves plan beats)
   | inr lacks ↦ inr lacks
 ]
 
 pub enforcer_stable : (q : Query) (group : KeyParts) (e : EnforcedBy)
-    → IsStable q (IsEnforcerSettled (IsMember q) q group e)
+    → IsStable q (BeatsEnforcer (IsMember q) q group e)
 enforcer_stable q group e best other improves (inl (kid, least, beats)) =
     inl (kid, least, improves (over (nodes.Enforcer e.node) kid) beats)
 enforcer_stable q group e best other improves (inr none) = inr none

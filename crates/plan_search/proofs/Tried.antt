@@ -9,12 +9,12 @@ use Rattle.query_core.specs.declared.words.KeyParts.{KeyParts}
 use Rattle.xform_rules.specs.Closure.{IsMember}
 use Rattle.request_props.specs.declared.request.Request.{Request}
 use Rattle.plan_space.specs.Nodes.{Tree}
-use Rattle.plan_space.specs.Choices.{IsModeSettled}
+use Rattle.plan_space.specs.Choices.{BeatsMode}
 use Rattle.plan_search.specs.declared.kept_plans.KeptPlans.{KeptPlans}
 use Rattle.plan_search.specs.declared.choice.Choice.{Choice}
 use Rattle.plan_search.specs.declared.native.NativeNode.{NativeNode}
 use Rattle.plan_search.specs.Natives.{IsNative, AreNative, RisesFrom, mode_number, IsIn}
-use Rattle.plan_search.specs.BestSoFar.{AreSettledIn, Goes, GoesOver, GoesOverAll}
+use Rattle.plan_search.specs.BestSoFar.{BeatsModes, Goes, GoesOver, GoesOverAll}
 use Rattle.plan_search.proofs.Scanning.{IsStable, goes_on, goes_to, goes_as, goes_not, mode_stable}
 
 -- each of the list is such a member
@@ -68,28 +68,28 @@ in_append p last (first ∷ others) (inr later) = elim (in_append p last others 
 ]
 
 module _ (q : Query) (wanted : Request) where
-  pub settled_stable : (list : List NativeNode) → IsStable q (AreSettledIn q wanted list)
-  settled_stable list best other improves settled p among =
-      mode_stable q wanted p.expr p.mode best other improves (settled p among)
+  pub modes_stable : (list : List NativeNode) → IsStable q (BeatsModes q wanted list)
+  modes_stable list best other improves beats p among =
+      mode_stable q wanted p.expr p.mode best other improves (beats p among)
 
-  settled_more : (list : List NativeNode) (last : NativeNode) (best : Option Tree) → AreSettledIn q wanted list best
-      × IsModeSettled (IsMember q) q wanted last.expr last.mode best
-      → AreSettledIn q wanted (list ++ last ∷ []) best
-  settled_more list last best settled p among = elim (in_append p last list among) [
-    | inl before ↦ settled.0 p before
-    | inr is ↦ subst (λ x. IsModeSettled (IsMember q) q wanted x.expr x.mode best) (sym is) settled.1
+  beats_more : (list : List NativeNode) (last : NativeNode) (best : Option Tree) → BeatsModes q wanted list best
+      × BeatsMode (IsMember q) q wanted last.expr last.mode best
+      → BeatsModes q wanted (list ++ last ∷ []) best
+  beats_more list last best beats p among = elim (in_append p last list among) [
+    | inl before ↦ beats.0 p before
+    | inr is ↦ subst (λ x. BeatsMode (IsMember q) q wanted x.expr x.mode best) (sym is) beats.1
   ]
 
   module _ (answers : KeptPlans) (group : KeyParts) (list : List NativeNode) where
-    -- the bests so far, where the first so many of the list are settled
+    -- the bests so far, which beat the first so many of the list
     pub record AreTried (i : ℕ) (old new : Option Choice) : Type 0 where
-      pub goes : Goes q answers group wanted (2 ^ 56) (next_number (drop i list)) (AreSettledIn q wanted (take i list))
+      pub goes : Goes q answers group wanted (2 ^ 56) (next_number (drop i list)) (BeatsModes q wanted (take i list))
           old new
       pub rises : RisesFrom 0 (drop i list)
 
     pub tried_none : (best : Option Choice) → RisesFrom (2 ^ 56) list → AreTried 0 best best
     tried_none best rises = record {
-      goes = goes_not q answers group wanted (2 ^ 56) (next_number list) (AreSettledIn q wanted []) best
+      goes = goes_not q answers group wanted (2 ^ 56) (next_number list) (BeatsModes q wanted []) best
           (first_from (2 ^ 56) list (omega arith) rises) (λ tree p among. absurd among);
       rises = rises_less (2 ^ 56) 0 list (omega arith) rises;
     }
@@ -101,29 +101,29 @@ module _ (q : Query) (wanted : Request) where
         let here : drop i list ≡ p ∷ drop (suc i) list = drop-cons list i d within
         ∙ ap (λ x. x ∷ drop (suc i) list) (sym is) in
         let rises : RisesFrom 0 (p ∷ drop (suc i) list) = subst (RisesFrom 0) here tried.rises in
-        let before : Goes q answers group wanted (2 ^ 56) (mode_number p) (AreSettledIn q wanted (take i list)) old
+        let before : Goes q answers group wanted (2 ^ 56) (mode_number p) (BeatsModes q wanted (take i list)) old
         new =
-        subst (λ l. Goes q answers group wanted (2 ^ 56) (next_number l) (AreSettledIn q wanted (take i list)) old new)
+        subst (λ l. Goes q answers group wanted (2 ^ 56) (next_number l) (BeatsModes q wanted (take i list)) old new)
         here tried.goes in
         let this : Goes q answers group wanted (mode_number p) (mode_number p + 1)
-        (IsModeSettled (IsMember q) q wanted p.expr p.mode) new newer =
+        (BeatsMode (IsMember q) q wanted p.expr p.mode) new newer =
         subst (λ g. Goes q answers g wanted (mode_number p) (mode_number p + 1)
-        (IsModeSettled (IsMember q) q wanted p.expr p.mode) new newer) physical.of_group goes in
+        (BeatsMode (IsMember q) q wanted p.expr p.mode) new newer) physical.of_group goes in
         let taken : take (suc i) list ≡ take i list ++ p ∷ [] = take_more list i d within
         ∙ ap (λ x. take i list ++ x ∷ []) (sym is) in
         record {
           goes = subst (λ l. Goes q answers group wanted (2 ^ 56) (next_number (drop (suc i) list))
-              (AreSettledIn q wanted l) old newer) (sym taken)
+              (BeatsModes q wanted l) old newer) (sym taken)
               (goes_to q answers group wanted (2 ^ 56) (mode_number p + 1) (next_number (drop (suc i) list))
-              (AreSettledIn q wanted (take i list ++ p ∷ [])) old newer
+              (BeatsModes q wanted (take i list ++ p ∷ [])) old newer
               (first_from (mode_number p + 1) (drop (suc i) list) physical.small rises.1)
               (goes_as q answers group wanted (2 ^ 56) (mode_number p + 1)
-              (λ best. AreSettledIn q wanted (take i list) best
-              × IsModeSettled (IsMember q) q wanted p.expr p.mode best)
-              (AreSettledIn q wanted (take i list ++ p ∷ [])) old newer (settled_more (take i list) p)
+              (λ best. BeatsModes q wanted (take i list) best
+              × BeatsMode (IsMember q) q wanted p.expr p.mode best)
+              (BeatsModes q wanted (take i list ++ p ∷ [])) old newer (beats_more (take i list) p)
               (goes_on q answers group wanted (2 ^ 56) (mode_number p) (mode_number p + 1)
-              (AreSettledIn q wanted (take i list)) (IsModeSettled (IsMember q) q wanted p.expr p.mode)
-              old new newer (settled_stable (take i list)) before this)));
+              (BeatsModes q wanted (take i list)) (BeatsMode (IsMember q) q wanted p.expr p.mode)
+              old new newer (modes_stable (take i list)) before this)));
           rises = rises_less (mode_number p + 1) 0 (drop (suc i) list) (omega arith) rises.1;
         }
 
@@ -135,11 +135,11 @@ module _ (q : Query) (wanted : Request) where
         subst (λ n. AreTried n old newer) next (tried_next i d (get_or list i d) old new newer within refl
         (is_native_at q group list i d within are) tried goes)
 
-    -- at the end each of the list is settled
+    -- at the end the best beats each of the list
     pub tried_all : (i : ℕ) (old new : Option Choice) → length list ≤ i → AreTried i old new
         → GoesOverAll q answers group wanted list old new
     tried_all i old new end tried =
-        subst (λ l. Goes q answers group wanted (2 ^ 56) (2 ^ 57) (AreSettledIn q wanted l) old new)
+        subst (λ l. Goes q answers group wanted (2 ^ 56) (2 ^ 57) (BeatsModes q wanted l) old new)
         (take_all i list end)
-        (subst (λ l. Goes q answers group wanted (2 ^ 56) (next_number l) (AreSettledIn q wanted (take i list)) old new)
+        (subst (λ l. Goes q answers group wanted (2 ^ 56) (next_number l) (BeatsModes q wanted (take i list)) old new)
         (drop_all i list end) tried.goes)

@@ -11,10 +11,10 @@ use Rattle.cost_units.specs.Cost.{most_rows}
 use Rattle.request_props.specs.declared.request.Request.{Request}
 use Rattle.plan_space.specs.declared.nodes.NodeKind.{NodeKind}
 use Rattle.plan_space.specs.declared.nodes.NodeKind.TheVariants as nodes
-use Rattle.plan_space.specs.Nodes.{number_of, Tree, leaf, over, two}
+use Rattle.plan_space.specs.Nodes.{node_number, Tree, leaf, over, two}
 use Rattle.plan_space.specs.Cost.{cost_of}
 use Rattle.plan_space.specs.Least.{Serves, IsAnswer}
-use Rattle.plan_space.specs.Choices.{Beats, IsEnforcerSettled, IsModeSettled, LacksOne, AreLeast, IsNodeOver, groups_of}
+use Rattle.plan_space.specs.Choices.{Beats, BeatsEnforcer, BeatsMode, LacksOne, AreLeast, IsNodeOver, groups_of}
 use Rattle.plan_space.specs.declared.lines.Line.{Line}
 use Rattle.plan_space.specs.Alternatives.{IsAlternative, asked_of}
 use Rattle.plan_space.specs.Enforcers.{EnforcedBy, enforcers_of, Among}
@@ -51,9 +51,9 @@ pub record IsChosen (q : Query) (answers : KeptPlans) (group : KeyParts) (wanted
 
 -- the number of the node at the root
 abbrev pub root_number : Tree → ℕ
-root_number (leaf node) = number_of node
-root_number (over node kid) = number_of node
-root_number (two node left right) = number_of node
+root_number (leaf node) = node_number node
+root_number (over node kid) = node_number node
+root_number (two node left right) = node_number node
 
 -- the best choice so far is this tree, if there is one
 abbrev pub IsBestSoFar : Query → KeptPlans → KeyParts → Request → Option Choice → Option Tree → Type 0
@@ -118,21 +118,21 @@ IsMade q answers wanted e mode choice =
     → (kids : List Tree) × AreLeast (IsMember q) q (groups_of (physical_children e.operator)) (asked_of line wanted)
     kids × IsNodeOver (nodes.Native e mode) kids tree)
 
--- each of the list is settled
-abbrev pub AreSettledIn : Query → Request → List NativeNode → Option Tree → Type 0
-AreSettledIn q wanted list best = (p : NativeNode) → IsIn p list
-    → IsModeSettled (IsMember q) q wanted p.expr p.mode best
+-- the best beats each of the list
+abbrev pub BeatsModes : Query → Request → List NativeNode → Option Tree → Type 0
+BeatsModes q wanted list best = (p : NativeNode) → IsIn p list
+    → BeatsMode (IsMember q) q wanted p.expr p.mode best
 
 -- over a member in its mode
 abbrev pub GoesOver : Query → KeptPlans → NativeNode → Request → Option Choice → Option Choice → Type 0
 GoesOver q answers p wanted old new = Goes q answers p.expr.group wanted (mode_number p) (mode_number p + 1)
-    (IsModeSettled (IsMember q) q wanted p.expr p.mode) old new
+    (BeatsMode (IsMember q) q wanted p.expr p.mode) old new
 
 -- over the members of the group in their modes
 abbrev pub GoesOverAll : Query → KeptPlans → KeyParts → Request → List NativeNode → Option Choice → Option Choice
     → Type 0
 GoesOverAll q answers group wanted list old new =
-    Goes q answers group wanted (2 ^ 56) (2 ^ 57) (AreSettledIn q wanted list) old new
+    Goes q answers group wanted (2 ^ 56) (2 ^ 57) (BeatsModes q wanted list) old new
 
 -- ---- enforcers
 
@@ -142,27 +142,27 @@ pub record HasRows (q : Query) (group : KeyParts) (rows : ℕ) : Type 0 where
   pub few : rows ≤ most_rows
 
 -- the number of the n-th enforcer for the request, or one that is above all
-abbrev pub enforcer_number : Request → ℕ → ℕ
-enforcer_number wanted n = option_map_or (λ e. number_of (nodes.Enforcer e.node)) (slice_get (enforcers_of wanted) n)
+abbrev pub number_at_place : Request → ℕ → ℕ
+number_at_place wanted n = option_map_or (λ e. node_number (nodes.Enforcer e.node)) (slice_get (enforcers_of wanted) n)
     (2 ^ 56)
 
--- the n-th enforcer for the request is settled, if there are so many
-abbrev pub IsPlaceSettled : Query → KeyParts → Request → ℕ → Option Tree → Type 0
-IsPlaceSettled q group wanted n best = (e : EnforcedBy) → slice_get (enforcers_of wanted) n ≡ Some e
-    → IsEnforcerSettled (IsMember q) q group e best
+-- the best beats the n-th enforcer for the request, if there are so many
+abbrev pub BeatsPlace : Query → KeyParts → Request → ℕ → Option Tree → Type 0
+BeatsPlace q group wanted n best = (e : EnforcedBy) → slice_get (enforcers_of wanted) n ≡ Some e
+    → BeatsEnforcer (IsMember q) q group e best
 
--- the first so many enforcers of the list are settled
-abbrev pub AreEnforcersSettled : Query → KeyParts → List EnforcedBy → Option Tree → Type 0
-AreEnforcersSettled q group enforcers best = (e : EnforcedBy) → Among e enforcers
-    → IsEnforcerSettled (IsMember q) q group e best
+-- the best beats each enforcer of the list
+abbrev pub BeatsEnforcers : Query → KeyParts → List EnforcedBy → Option Tree → Type 0
+BeatsEnforcers q group enforcers best = (e : EnforcedBy) → Among e enforcers
+    → BeatsEnforcer (IsMember q) q group e best
 
 -- over the n-th enforcer for the request, if there are so many
 abbrev pub GoesOverPlace : Query → KeptPlans → KeyParts → Request → ℕ → Option Choice → Option Choice → Type 0
 GoesOverPlace q answers group wanted n old new =
-    Goes q answers group wanted (enforcer_number wanted n) (enforcer_number wanted (n + 1))
-    (IsPlaceSettled q group wanted n) old new
+    Goes q answers group wanted (number_at_place wanted n) (number_at_place wanted (n + 1))
+    (BeatsPlace q group wanted n) old new
 
 -- over the enforcers for the request
 abbrev pub GoesOverEnforcers : Query → KeptPlans → KeyParts → Request → Option Choice → Option Choice → Type 0
 GoesOverEnforcers q answers group wanted old new =
-    Goes q answers group wanted 0 (2 ^ 56) (AreEnforcersSettled q group (enforcers_of wanted)) old new
+    Goes q answers group wanted 0 (2 ^ 56) (BeatsEnforcers q group (enforcers_of wanted)) old new

@@ -7,7 +7,7 @@ use Rattle.query_core.specs.declared.expressions.PhysicalExpr.{PhysicalExpr}
 use Rattle.xform_rules.specs.Closure.{IsMember}
 use Rattle.request_props.specs.declared.request.Dist.{Dist}
 use Rattle.plan_space.specs.declared.nodes.NodeKind.TheVariants as nodes
-use Rattle.plan_space.specs.Nodes.{number_of}
+use Rattle.plan_space.specs.Nodes.{node_number}
 use Rattle.plan_space.specs.Modes.{modes_end}
 use Rattle.plan_space.specs.declared.lines.Line.{Line}
 use Rattle.plan_space.specs.Lines.{line_of}
@@ -19,7 +19,7 @@ use Rattle.plan_tree.specs.Costs.{AreRowsOf}
 
 -- the number of an expression in a mode
 abbrev pub mode_number : NativeNode → ℕ
-mode_number p = number_of (nodes.Native p.expr p.mode)
+mode_number p = node_number (nodes.Native p.expr p.mode)
 
 -- a member of the group in one of its few modes, with its line there, and its rows
 pub record IsNative (q : Query) (group : KeyParts) (p : NativeNode) : Type 0 where
@@ -89,7 +89,7 @@ AreInModes q e bound (p ∷ ps) = IsInMode q e bound p × AreInModes q e bound p
 -- the expression in all modes below the bound in which it has a line, by their numbers
 pub record AreModesOf (q : Query) (e : PhysicalExpr) (bound : ℕ) (list : List NativeNode) : Type 0 where
   pub are : AreInModes q e bound list
-  pub rises : RisesFrom (number_of (nodes.Native e 0)) list
+  pub rises : RisesFrom (node_number (nodes.Native e 0)) list
   pub complete : (mode : ℕ) (line : Line) → mode < bound → line_of q e mode ≡ Some line → HasMode e mode list
 
 -- the expression in all its modes comes behind the list

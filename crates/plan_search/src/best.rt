@@ -16,7 +16,7 @@ use crate::kept_plans::KeptPlans;
 use crate::native::NativeNode;
 use crate::natives::{Search, try_all};
 use crate::places::place_at;
-use plan_space::settled_is_least;
+use plan_space::best_of_all_is_least;
 use query_core::{Key, KeyParts, Query, expressions_are_one, groups_are_known};
 use request_props::{Props, Request};
 use std::alloc::AllocError;
@@ -64,8 +64,8 @@ fn find(
     requires answered { AreAnswered query.now answers.now (place_of group wanted) }
     ensures { IsBestChoice query.now answers.now group wanted result }
 {
-    // For the proof: what is settled is least.
-    settled_is_least();
+    // For the proof: what beats all is least.
+    best_of_all_is_least();
     let search = Search {
         query,
         props,

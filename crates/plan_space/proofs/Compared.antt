@@ -7,7 +7,7 @@ use Rattle.query_core.specs.declared.query.Query.{Query}
 use Rattle.query_core.specs.declared.words.KeyParts.{KeyParts}
 use Rattle.query_core.specs.declared.expressions.ExprParts.{ExprParts}
 use Rattle.request_props.specs.declared.request.Request.{Request}
-use Rattle.plan_space.specs.Nodes.{number_of, Tree, leaf, over, two, code_of}
+use Rattle.plan_space.specs.Nodes.{node_number, Tree, leaf, over, two, code_of}
 use Rattle.plan_space.specs.declared.nodes.NodeKind.{NodeKind}
 use Rattle.plan_space.specs.declared.seen.Kid.{Kid}
 use Rattle.plan_space.specs.Gives.{kid_of}
@@ -30,7 +30,7 @@ module _ (Member : ExprParts → Type 0) (packed : (e : ExprParts) → Member e 
 
   -- nodes with one number stand over as many kids
   pub as_many : (a b : NodeKind) (kids others : List Kid) → NodeFits Member q a kids → NodeFits Member q b others
-      → number_of a ≡ number_of b
+      → node_number a ≡ node_number b
       → length kids ≡ length others
   as_many a b kids others x y same =
       fits_arity Member q a kids x ∙ number_arity expressions 91 (omega arith) a b (in_range a kids x)
@@ -38,31 +38,31 @@ module _ (Member : ExprParts → Type 0) (packed : (e : ExprParts) → Member e 
       ∙ sym (fits_arity Member q b others y)
 
   compared : (s t : Tree) → IsValid Member q s → IsValid Member q t → AreCompared (code_of s) (code_of t)
-  compared (leaf a) (leaf b) x y = compared_first (number_of a) (number_of b) [] [] (λ same. inr (inl refl))
+  compared (leaf a) (leaf b) x y = compared_first (node_number a) (node_number b) [] [] (λ same. inr (inl refl))
   compared (leaf a) (over b kid) x y =
-      compared_first (number_of a) (number_of b) [] (code_of kid) (λ same. let many =
+      compared_first (node_number a) (node_number b) [] (code_of kid) (λ same. let many =
       as_many a b [] (kid_of q kid ∷ []) x y.1 same in absurd (omega arith))
   compared (leaf a) (two b left right) x y =
-      compared_first (number_of a) (number_of b) [] (code_of left ++ code_of right)
+      compared_first (node_number a) (node_number b) [] (code_of left ++ code_of right)
       (λ same. let many = as_many a b [] (kid_of q left ∷ kid_of q right ∷ []) x y.2 same in absurd (omega arith))
   compared (over a kid) (leaf b) x y =
-      compared_first (number_of a) (number_of b) (code_of kid) [] (λ same. let many =
+      compared_first (node_number a) (node_number b) (code_of kid) [] (λ same. let many =
       as_many a b (kid_of q kid ∷ []) [] x.1 y same in absurd (omega arith))
   compared (over a kid) (over b other) x y =
-      compared_first (number_of a) (number_of b) (code_of kid) (code_of other) (λ same. compared kid other x.0 y.0)
+      compared_first (node_number a) (node_number b) (code_of kid) (code_of other) (λ same. compared kid other x.0 y.0)
   compared (over a kid) (two b left right) x y =
-      compared_first (number_of a) (number_of b) (code_of kid) (code_of left ++ code_of right)
+      compared_first (node_number a) (node_number b) (code_of kid) (code_of left ++ code_of right)
       (λ same. let many = as_many a b (kid_of q kid ∷ []) (kid_of q left ∷ kid_of q right ∷ []) x.1 y.2 same in
       absurd (omega arith))
   compared (two a left right) (leaf b) x y =
-      compared_first (number_of a) (number_of b) (code_of left ++ code_of right) []
+      compared_first (node_number a) (node_number b) (code_of left ++ code_of right) []
       (λ same. let many = as_many a b (kid_of q left ∷ kid_of q right ∷ []) [] x.2 y same in absurd (omega arith))
   compared (two a left right) (over b kid) x y =
-      compared_first (number_of a) (number_of b) (code_of left ++ code_of right) (code_of kid)
+      compared_first (node_number a) (node_number b) (code_of left ++ code_of right) (code_of kid)
       (λ same. let many = as_many a b (kid_of q left ∷ kid_of q right ∷ []) (kid_of q kid ∷ []) x.2 y.1 same in
       absurd (omega arith))
   compared (two a left right) (two b first second) x y =
-      compared_first (number_of a) (number_of b) (code_of left ++ code_of right) (code_of first ++ code_of second)
+      compared_first (node_number a) (node_number b) (code_of left ++ code_of right) (code_of first ++ code_of second)
       (λ same. compared_append (code_of left) (code_of first) (code_of right) (code_of second)
       (compared left first x.0 y.0) (compared right second x.1 y.1))
 

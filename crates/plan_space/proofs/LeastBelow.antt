@@ -17,7 +17,7 @@ use Rattle.plan_space.specs.Alternatives.{KidsServe}
 use Rattle.plan_space.specs.Enforcers.{EnforcedBy}
 use Rattle.plan_space.specs.Least.{Serves, IsLeast}
 use Rattle.plan_space.specs.Order.{IsAtMost}
-use Rattle.plan_space.specs.Choices.{AreLeast, IsNodeOver, Beats, IsEnforcerSettled, LacksOne}
+use Rattle.plan_space.specs.Choices.{AreLeast, IsNodeOver, Beats, BeatsEnforcer, LacksOne}
 use Rattle.plan_space.specs.Laws.{AreOf}
 use Rattle.plan_space.proofs.Plans.{IsAtMost-trans, kid_at_most, over_at_most, two_at_most}
 use Rattle.plan_space.proofs.Exchange.{Replaces, same_class, same_shape}
@@ -41,8 +41,8 @@ Beats-then q None plan other beats most = absurd beats
 Beats-then q (Some best) plan other beats most = IsAtMost-trans q best plan other beats most
 
 -- a least plan is at most each plan for its request
-abbrev pub AreSettled : (ExprParts → Type 0) → Query → Type 0
-AreSettled Member q = (group : KeyParts) (wanted : Request) (plan other : Tree) → IsLeast Member q group wanted plan
+abbrev pub LeastAreAtMost : (ExprParts → Type 0) → Query → Type 0
+LeastAreAtMost Member q = (group : KeyParts) (wanted : Request) (plan other : Tree) → IsLeast Member q group wanted plan
     → Serves Member q group wanted other → IsAtMost q plan other
 
 -- a node over least plans beats the same node over plans that they are at most
@@ -81,7 +81,7 @@ module _ (q : Query) (best : Option Tree) (e : PhysicalExpr) (mode : ℕ) where
       (two_at_most q (nodes.Native e mode) first left second right (omega arith) at_most.0 at_most.1.0)
   at_two left right (first ∷ second ∷ other ∷ others) plan at_most alike over_plans beats = absurd at_most.1.1
 
-module _ (Member : ExprParts → Type 0) (q : Query) (settled : AreSettled Member q) where
+module _ (Member : ExprParts → Type 0) (q : Query) (at_most_each : LeastAreAtMost Member q) where
   -- where some child has no plan, no kids serve
   pub lacks_kids : (groups : List KeyParts) (wishes : List Request) (kids : List Tree) → AreOf groups (sights q kids)
       → KidsServe q (sights q kids) wishes
@@ -109,7 +109,8 @@ module _ (Member : ExprParts → Type 0) (q : Query) (settled : AreSettled Membe
   least_kids (g ∷ groups) (wanted ∷ wishes) (plan ∷ plans) (kid ∷ kids) least of_groups serve valid =
       let rest = least_kids groups wishes plans kids least.1 of_groups.1 serve.1 valid.1 in (
         (
-          settled g wanted plan kid least.0 (record { valid = valid.0; of_group = of_groups.0; satisfies = serve.0 }),
+          at_most_each g wanted plan kid least.0
+          (record { valid = valid.0; of_group = of_groups.0; satisfies = serve.0 }),
           rest.0,
         ),
         (
@@ -123,7 +124,7 @@ module _ (Member : ExprParts → Type 0) (q : Query) (settled : AreSettled Membe
     -- an enforcer of the request over the least plan does as well as the one that it replaces
     pub at_replaced : (node : Enforcer) (kid : Tree) (e : EnforcedBy) → Replaces q wanted node (kid_of q kid) e
         → Serves Member q group e.below kid
-        → IsEnforcerSettled Member q group e best → Beats q best (over (nodes.Enforcer node) kid)
+        → BeatsEnforcer Member q group e best → Beats q best (over (nodes.Enforcer node) kid)
     at_replaced node kid e replaces serves (inl (plan, below, beats)) =
         let class = same_class (gives q plan).dist (gives q kid).dist e.below.dist below.serves.satisfies.dist
         serves.satisfies.dist in
@@ -133,5 +134,5 @@ module _ (Member : ExprParts → Type 0) (q : Query) (settled : AreSettled Membe
         let cost = replaces.cost in
         Beats-then q best (over (nodes.Enforcer e.node) plan) (over (nodes.Enforcer node) kid) beats
         (over_at_most q (nodes.Enforcer e.node) (nodes.Enforcer node) plan kid replaces.number (omega arith)
-        (settled group e.below plan kid below serves))
+        (at_most_each group e.below plan kid below serves))
     at_replaced node kid e replaces serves (inr none) = absurd (none kid serves)

@@ -26,7 +26,7 @@ use Rattle.plan_space.specs.Laws.{AsksWhatFits}
 use Rattle.plan_space.proofs.Exchange.{IsOrdered, same_shape, exchange}
 use Rattle.plan_space.proofs.Kids.{sights, AreValid, kids_of_children}
 use Rattle.plan_space.proofs.Serving.{enforcer_serves}
-use Rattle.plan_space.proofs.LeastBelow.{AreSettled}
+use Rattle.plan_space.proofs.LeastBelow.{LeastAreAtMost}
 use Rattle.plan_space.proofs.Plans.{at_most_costs}
 use Rattle.plan_space.proofs.NodeCounts.{group_nodes, most_nodes, nodes_below, request_few, some_nodes, all_few}
 use Rattle.plan_space.proofs.Children.{children_lesser}
@@ -50,7 +50,7 @@ range_of Member q packed (two (nodes.Enforcer node) left right) valid = absurd v
 
 -- what is known of all plans of a query
 pub record AreKnown (Member : ExprParts → Type 0) (q : Query) : Type 0 where
-  pub settled : AreSettled Member q
+  pub at_most_each : LeastAreAtMost Member q
   pub ordered : IsOrdered q
   pub candidates : (e : ExprParts) → Member e → IsCandidate q e
   pub packed : (e : ExprParts) → Member e → IsPacked e
@@ -172,7 +172,7 @@ module _ (Member : ExprParts → Type 0) (q : Query) (known : AreKnown Member q)
       → IsLeast Member q group wanted plan → cost_of q plan ≤ most_cost * most_nodes group wanted
   least_nodes group wanted plan fits least = cheapest_small plan group wanted fits (record {
     serves = least.serves;
-    cheapest = λ other serves. at_most_costs q plan other (known.settled group wanted plan other least serves);
+    cheapest = λ other serves. at_most_costs q plan other (known.at_most_each group wanted plan other least serves);
   })
 
   -- a least plan costs no more than any may

@@ -14,7 +14,7 @@ use Rattle.query_core.specs.declared.expressions.PhysicalExpr.{PhysicalExpr}
 use Rattle.query_core.proofs.ExpressionLemmas.{expr_of_one}
 use Rattle.request_props.specs.Numbered.{lists_of, orders_of}
 use Rattle.request_props.specs.declared.request.Request.{Request}
-use Rattle.plan_space.specs.Nodes.{enforcer_number, node_modes, number_of}
+use Rattle.plan_space.specs.Nodes.{enforcer_number, node_modes, node_number}
 use Rattle.plan_space.specs.declared.nodes.NodeKind.{NodeKind}
 use Rattle.plan_space.specs.declared.nodes.NodeKind.TheVariants as nodes
 use Rattle.plan_space.specs.declared.nodes.Enforcer.{Enforcer}
@@ -137,7 +137,8 @@ module _ (expressions : (e f : ExprParts) → IsPacked e → IsPacked f → word
     (few : most < 2 ^ 32) where
   native_same : (e f : PhysicalExpr) (mode other : ℕ) → IsNodeWithin most (nodes.Native e mode)
       → IsNodeWithin most (nodes.Native f other)
-      → number_of (nodes.Native e mode) ≡ number_of (nodes.Native f other) → nodes.Native e mode ≡ nodes.Native f other
+      → node_number (nodes.Native e mode) ≡ node_number (nodes.Native f other)
+      → nodes.Native e mode ≡ nodes.Native f other
   native_same e f mode other x y same =
       let below = x.1 in
       let below' = y.1 in
@@ -148,11 +149,11 @@ module _ (expressions : (e f : ExprParts) → IsPacked e → IsPacked f → word
 
   -- no number is that of an expression and of an enforcer
   apart : (e : PhysicalExpr) (mode : ℕ) (b : Enforcer) → IsEnforcerInRange most b
-      → number_of (nodes.Native e mode) ≡ enforcer_number b → ⊥
+      → node_number (nodes.Native e mode) ≡ enforcer_number b → ⊥
   apart e mode b in_range same = omega (arith, enforcer_small most few b in_range, same)
 
   -- nodes with one number have as many kids
-  pub number_arity : (a b : NodeKind) → IsNodeWithin most a → IsNodeWithin most b → number_of a ≡ number_of b
+  pub number_arity : (a b : NodeKind) → IsNodeWithin most a → IsNodeWithin most b → node_number a ≡ node_number b
       → arity_of a ≡ arity_of b
   number_arity (nodes.Native e mode) (nodes.Native f other) x y same = ap arity_of (native_same e f mode other x y same)
   number_arity (nodes.Native e mode) (nodes.Enforcer b) x y same = absurd (apart e mode b y same)
@@ -162,7 +163,7 @@ module _ (expressions : (e f : ExprParts) → IsPacked e → IsPacked f → word
 -- where orders and lists have numbers up to 60, nodes with one number are one
 pub number_names_one : ((e f : ExprParts) → IsPacked e → IsPacked f → word_of e ≡ word_of f → e ≡ f) → (a b : NodeKind)
     → IsNodeWithin 60 a → IsNodeWithin 60 b
-    → number_of a ≡ number_of b → a ≡ b
+    → node_number a ≡ node_number b → a ≡ b
 number_names_one expressions (nodes.Native e mode) (nodes.Native f other) x y same =
     native_same expressions 60 (omega arith) e f mode other x y same
 number_names_one expressions (nodes.Native e mode) (nodes.Enforcer b) x y same =

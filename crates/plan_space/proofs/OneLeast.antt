@@ -7,7 +7,7 @@ use Rattle.query_core.specs.declared.words.KeyParts.{KeyParts}
 use Rattle.query_core.specs.declared.expressions.ExprParts.{ExprParts}
 use Rattle.request_props.specs.Numbered.{lists_of, orders_of}
 use Rattle.request_props.specs.declared.request.Request.{Request}
-use Rattle.plan_space.specs.Nodes.{number_of, Tree, leaf, over, two, code_of}
+use Rattle.plan_space.specs.Nodes.{node_number, Tree, leaf, over, two, code_of}
 use Rattle.plan_space.specs.declared.nodes.NodeKind.{NodeKind}
 use Rattle.plan_space.specs.declared.seen.Kid.{Kid}
 use Rattle.plan_space.specs.Gives.{kid_of}
@@ -23,7 +23,7 @@ module _ (Member : ExprParts → Type 0) (packed : (e : ExprParts) → Member e 
     (few_lists : length (lists_of q) ≤ 60) (few_orders : length (orders_of q) ≤ 60) where
   -- nodes of valid plans with one number are one
   same_node : (a b : NodeKind) (kids others : List Kid) → NodeFits Member q a kids → NodeFits Member q b others
-      → number_of a ≡ number_of b → a ≡ b
+      → node_number a ≡ node_number b → a ≡ b
   same_node a b kids others x y same =
       number_names_one expressions a b (fits_in_range Member packed q 60 few_orders few_lists a kids x)
       (fits_in_range Member packed q 60 few_orders few_lists b others y) same
@@ -33,40 +33,40 @@ module _ (Member : ExprParts → Type 0) (packed : (e : ExprParts) → Member e 
       → code_of s ++ rest ≡ code_of t ++ others
       → (s ≡ t) × (rest ≡ others)
   code_names_one (leaf a) (leaf b) rest others x y same =
-      let number : number_of a ≡ number_of b = cc in
+      let number : node_number a ≡ node_number b = cc in
       let node = same_node a b [] [] x y number in
       (ap leaf node, cc)
   code_names_one (leaf a) (over b kid) rest others x y same =
-      let number : number_of a ≡ number_of b = cc in let many =
+      let number : node_number a ≡ node_number b = cc in let many =
       as_many Member packed expressions q a b [] (kid_of q kid ∷ []) x y.1 number in absurd (omega arith)
   code_names_one (leaf a) (two b left right) rest others x y same =
-      let number : number_of a ≡ number_of b = cc in
+      let number : node_number a ≡ node_number b = cc in
       let many = as_many Member packed expressions q a b [] (kid_of q left ∷ kid_of q right ∷ []) x y.2 number in
       absurd (omega arith)
   code_names_one (over a kid) (leaf b) rest others x y same =
-      let number : number_of a ≡ number_of b = cc in let many =
+      let number : node_number a ≡ node_number b = cc in let many =
       as_many Member packed expressions q a b (kid_of q kid ∷ []) [] x.1 y number in absurd (omega arith)
   code_names_one (over a kid) (over b other) rest others x y same =
-      let number : number_of a ≡ number_of b = cc in
+      let number : node_number a ≡ node_number b = cc in
       let node = same_node a b (kid_of q kid ∷ []) (kid_of q other ∷ []) x.1 y.1 number in
       let below : code_of kid ++ rest ≡ code_of other ++ others = cc in
       let found = code_names_one kid other rest others x.0 y.0 below in
       let kid_is = found.0 in
       (cc, found.1)
   code_names_one (over a kid) (two b left right) rest others x y same =
-      let number : number_of a ≡ number_of b = cc in
+      let number : node_number a ≡ node_number b = cc in
       let many = as_many Member packed expressions q a b (kid_of q kid ∷ []) (kid_of q left ∷ kid_of q right ∷ []) x.1
       y.2 number in absurd (omega arith)
   code_names_one (two a left right) (leaf b) rest others x y same =
-      let number : number_of a ≡ number_of b = cc in
+      let number : node_number a ≡ node_number b = cc in
       let many = as_many Member packed expressions q a b (kid_of q left ∷ kid_of q right ∷ []) [] x.2 y number in
       absurd (omega arith)
   code_names_one (two a left right) (over b kid) rest others x y same =
-      let number : number_of a ≡ number_of b = cc in
+      let number : node_number a ≡ node_number b = cc in
       let many = as_many Member packed expressions q a b (kid_of q left ∷ kid_of q right ∷ []) (kid_of q kid ∷ []) x.2
       y.1 number in absurd (omega arith)
   code_names_one (two a left right) (two b first second) rest others x y same =
-      let number : number_of a ≡ number_of b = cc in
+      let number : node_number a ≡ node_number b = cc in
       let node = same_node a b (kid_of q left ∷ kid_of q right ∷ []) (kid_of q first ∷ kid_of q second ∷ []) x.2 y.2
       number in
       let behind : (code_of left ++ code_of right) ++ rest ≡ (code_of first ++ code_of second) ++ others = cc in

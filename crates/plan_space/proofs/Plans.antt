@@ -2,7 +2,7 @@
 use Rattle.std.proofs.Common.{◌≤◌, [], ◌∷◌, inl, inr, refl, arith}
 use Rattle.std.proofs.Math.Nat.{eq-or-lt_of_le}
 use Rattle.query_core.specs.declared.query.Query.{Query}
-use Rattle.plan_space.specs.Nodes.{number_of, Tree, over, two, code_of}
+use Rattle.plan_space.specs.Nodes.{node_number, Tree, over, two, code_of}
 use Rattle.plan_space.specs.declared.nodes.NodeKind.{NodeKind}
 use Rattle.plan_space.specs.Gives.{kid_of}
 use Rattle.cost_units.specs.declared.shape.CostShape.{CostShape}
@@ -45,7 +45,7 @@ kid_at_most q node a kid (inr x) = let some = costs_some (shape_of q node (kid_o
 
 -- a node of no greater number and no greater cost over a plan that is at most the other
 pub over_at_most : (q : Query) (node other : NodeKind) (a b : Tree)
-    → number_of node ≤ number_of other
+    → node_number node ≤ node_number other
     → local_cost (shape_of q node (kid_of q a ∷ [])) ≤ local_cost (shape_of q other (kid_of q b ∷ []))
     → IsAtMost q a b
     → IsAtMost q (over node a) (over other b)

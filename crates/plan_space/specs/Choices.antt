@@ -59,8 +59,8 @@ Beats q None plan = ⊥
 Beats q (Some best) plan = IsAtMost q best plan
 
 -- the group has no plan for what the enforcer asks, or the best is at most the enforcer over a least plan for that
-abbrev pub IsEnforcerSettled : (ExprParts → Type 0) → Query → KeyParts → EnforcedBy → Option Tree → Type 0
-IsEnforcerSettled Member q group e best =
+abbrev pub BeatsEnforcer : (ExprParts → Type 0) → Query → KeyParts → EnforcedBy → Option Tree → Type 0
+BeatsEnforcer Member q group e best =
     ((kid : Tree) × IsLeast Member q group e.below kid × Beats q best (over (nodes.Enforcer e.node) kid))
     ⊎ HasNoPlan Member q group e.below
 
@@ -72,17 +72,17 @@ LacksOne Member q (group ∷ groups) (wanted ∷ wishes) = HasNoPlan Member q gr
 
 -- some child has no plan for what the line asks of it, or the best is at most the expression in this mode over least
 -- plans for that
-abbrev pub IsLineSettled : (ExprParts → Type 0) → Query → PhysicalExpr → ℕ → Line → Request → Option Tree → Type 0
-IsLineSettled Member q e mode line wanted best =
+abbrev pub BeatsLine : (ExprParts → Type 0) → Query → PhysicalExpr → ℕ → Line → Request → Option Tree → Type 0
+BeatsLine Member q e mode line wanted best =
     ((kids : List Tree) × (plan : Tree) × AreLeast Member q (groups_of (physical_children e.operator))
     (asked_of line wanted) kids × IsNodeOver (nodes.Native e mode) kids plan
     × Beats q best plan)
     ⊎ LacksOne Member q (groups_of (physical_children e.operator)) (asked_of line wanted)
 
 -- the same of a mode, where it is there for the request
-abbrev pub IsModeSettled : (ExprParts → Type 0) → Query → Request → PhysicalExpr → ℕ → Option Tree → Type 0
-IsModeSettled Member q wanted e mode best = (line : Line) → IsAlternative q e wanted mode line
-    → IsLineSettled Member q e mode line wanted best
+abbrev pub BeatsMode : (ExprParts → Type 0) → Query → Request → PhysicalExpr → ℕ → Option Tree → Type 0
+BeatsMode Member q wanted e mode best = (line : Line) → IsAlternative q e wanted mode line
+    → BeatsLine Member q e mode line wanted best
 
 -- the best meets the request, if it is there
 abbrev pub BestServes : (ExprParts → Type 0) → Query → KeyParts → Request → Option Tree → Type 0
@@ -90,12 +90,12 @@ BestServes Member q group wanted None = ⊤
 BestServes Member q group wanted (Some best) = Serves Member q group wanted best
 
 -- the best meets the request, and is at most what each node that may stand at the root makes of least plans
-pub record IsSettled (Member : ExprParts → Type 0) (q : Query) (group : KeyParts) (wanted : Request)
+pub record BeatsAll (Member : ExprParts → Type 0) (q : Query) (group : KeyParts) (wanted : Request)
     (best : Option Tree) : Type 0 where
   pub best_serves : BestServes Member q group wanted best
-  pub enforcers : (e : EnforcedBy) → Among e (enforcers_of wanted) → IsEnforcerSettled Member q group e best
+  pub enforcers : (e : EnforcedBy) → Among e (enforcers_of wanted) → BeatsEnforcer Member q group e best
   pub members : (e : PhysicalExpr) → (mode : ℕ) → Member (expr_of e) → e.group ≡ group
-      → IsModeSettled Member q wanted e mode best
+      → BeatsMode Member q wanted e mode best
 
 -- ---- plans with one expression at the root
 

@@ -34,7 +34,7 @@ use Rattle.plan_space.specs.Cost.{cost_of, most_of_all}
 use Rattle.plan_space.specs.Enforcers.{EnforcedBy, below_of, enforcers_of, Among, motion_to, moved_by, BringsTo}
 use Rattle.plan_space.specs.Enforcers.{IsEnforcerFor}
 use Rattle.plan_space.specs.declared.nodes.Motion.{Motion}
-use Rattle.plan_space.specs.Choices.{groups_of, IsNodeOver, IsChoice, IsModeSettled, IsSettled}
+use Rattle.plan_space.specs.Choices.{groups_of, IsNodeOver, IsChoice, BeatsMode, BeatsAll}
 use Rattle.plan_space.specs.Choices.{BestServesAtRoot, IsAnswerAtRoot}
 use Rattle.plan_space.specs.Least.{Serves, IsLeast, IsAnswer}
 
@@ -151,19 +151,19 @@ LeastIsOne q =
     → IsLeast (IsMember q) q group wanted plan → IsLeast (IsMember q) q group wanted other → other ≡ plan
 
 -- what is at most all that its nodes make of least plans is the least of all plans
-abbrev pub SettledIsLeast : Query → Type 0
-SettledIsLeast q =
+abbrev pub BestOfAllIsLeast : Query → Type 0
+BestOfAllIsLeast q =
     (group : KeyParts) (wanted : Request) (best : Option Tree) → Fits q group wanted
-    → IsSettled (IsMember q) q group wanted best
+    → BeatsAll (IsMember q) q group wanted best
     → IsAnswer (IsMember q) q group wanted best
 
 -- what is at most all that an expression makes of least plans in its modes is the least plan with the expression at its
 -- root
-abbrev pub SettledRootsAreLeast : Query → Type 0
-SettledRootsAreLeast q =
+abbrev pub BestAtRootIsLeast : Query → Type 0
+BestAtRootIsLeast q =
     (e : PhysicalExpr) (wanted : Request) (best : Option Tree) → Fits q e.group wanted
     → BestServesAtRoot (IsMember q) q e wanted best
-    → ((mode : ℕ) → IsModeSettled (IsMember q) q wanted e mode best)
+    → ((mode : ℕ) → BeatsMode (IsMember q) q wanted e mode best)
     → IsAnswerAtRoot (IsMember q) q e wanted best
 
 -- a choice is a plan that meets the request

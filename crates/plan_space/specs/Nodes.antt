@@ -19,9 +19,9 @@ abbrev pub node_modes : ℕ
 node_modes = 2 ^ 8
 
 -- the number of a node, by which plans of one cost are told apart
-abbrev pub number_of : NodeKind → ℕ
-number_of (nodes.Native e mode) = 2 ^ 56 + word_of (expr_of e) * node_modes + mode
-number_of (nodes.Enforcer e) = enforcer_number e
+abbrev pub node_number : NodeKind → ℕ
+node_number (nodes.Native e mode) = 2 ^ 56 + word_of (expr_of e) * node_modes + mode
+node_number (nodes.Enforcer e) = enforcer_number e
 
 -- a plan: a node over none, one or two plans
 pub data Tree : Type 0 where
@@ -31,6 +31,6 @@ pub data Tree : Type 0 where
 
 -- the numbers of the nodes, each before those below it
 abbrev pub code_of : Tree → List ℕ
-code_of (leaf node) = number_of node ∷ []
-code_of (over node kid) = number_of node ∷ code_of kid
-code_of (two node left right) = number_of node ∷ (code_of left ++ code_of right)
+code_of (leaf node) = node_number node ∷ []
+code_of (over node kid) = node_number node ∷ code_of kid
+code_of (two node left right) = node_number node ∷ (code_of left ++ code_of right)

@@ -6,7 +6,7 @@ ghost use Rattle.plan_space.specs.Nodes.{Tree};
 ghost use Rattle.plan_space.specs.Order.{IsAtMost};
 ghost use Rattle.plan_space.specs.Laws.{GivesWhatFits, SatisfactionSplits, SatisfactionJoins};
 ghost use Rattle.plan_space.specs.Laws.{SatisfactionSplitsAtRoots};
-ghost use Rattle.plan_space.specs.Laws.{AsksWhatFits, ChoicesServe, SettledIsLeast, SettledRootsAreLeast, LeastIsOne};
+ghost use Rattle.plan_space.specs.Laws.{AsksWhatFits, ChoicesServe, BestOfAllIsLeast, BestAtRootIsLeast, LeastIsOne};
 ghost use Rattle.plan_space.specs.Laws.{CrossingsFit, RootRequestFits, RootRequestIsCollected, ModesAreFew};
 ghost use Rattle.plan_space.specs.Laws.{ChoiceCostsFit, EnforcersAskWhatFits, KeysFall, LeastCostsFit};
 
@@ -65,8 +65,8 @@ pub fn choices_serve()
 }
 
 /// A plan that is at most what each node makes of least plans is the least of all plans.
-pub fn settled_is_least()
-    ensures { (q : Query) → SettledIsLeast q }
+pub fn best_of_all_is_least()
+    ensures { (q : Query) → BestOfAllIsLeast q }
 {
     what_is_given_fits();
     satisfaction_splits();
@@ -78,8 +78,8 @@ pub fn settled_is_least()
 
 /// A plan with an expression at its root that is at most what the expression makes of least plans in its modes is the
 /// least of all plans with that root.
-pub fn settled_roots_are_least()
-    ensures { (q : Query) → SettledRootsAreLeast q }
+pub fn best_at_root_is_least()
+    ensures { (q : Query) → BestAtRootIsLeast q }
 {
     what_is_given_fits();
     satisfaction_splits();

@@ -10,9 +10,9 @@ mod seen;
 mod ways;
 
 pub use laws::{
-    choices_serve, costs_fit, keys_fall, least_is_one, modes_are_few, plans_are_ordered,
-    root_request_fits, root_request_is_collected, satisfaction_splits, settled_is_least,
-    settled_roots_are_least, what_is_asked_fits, what_is_given_fits,
+    best_at_root_is_least, best_of_all_is_least, choices_serve, costs_fit, keys_fall, least_is_one,
+    modes_are_few, plans_are_ordered, root_request_fits, root_request_is_collected,
+    satisfaction_splits, what_is_asked_fits, what_is_given_fits,
 };
 pub use lines::{LeftDist, LeftOrder, Line};
 pub use modes::{END as MODES_END, Mode, ModeSets};

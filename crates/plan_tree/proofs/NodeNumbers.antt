@@ -4,7 +4,7 @@ use Rattle.query_core.specs.Expressions.{word_of, IsPacked, expr_of}
 use Rattle.query_core.specs.declared.expressions.ExprParts.{ExprParts}
 use Rattle.query_core.specs.declared.expressions.PhysicalExpr.{PhysicalExpr}
 use Rattle.query_core.proofs.ExpressionLemmas.{expr_of_one}
-use Rattle.plan_space.specs.Nodes.{enforcer_number, number_of}
+use Rattle.plan_space.specs.Nodes.{enforcer_number, node_number}
 use Rattle.plan_space.specs.declared.nodes.Enforcer.{Enforcer}
 use Rattle.plan_space.specs.declared.nodes.Enforcer.TheVariants.{Gather, Broadcast, Sort, GatherMerge, Redistribute}
 use Rattle.plan_space.specs.declared.nodes.NodeKind.{NodeKind}
@@ -17,7 +17,8 @@ same_fields w v m o few fewer same = (omega arith, omega arith)
 
 native_one : ((e f : ExprParts) → IsPacked e → IsPacked f → word_of e ≡ word_of f → e ≡ f)
     → (e f : PhysicalExpr) (mode other : ℕ)
-    → NativeInRange e mode → NativeInRange f other → number_of (nodes.Native e mode) ≡ number_of (nodes.Native f other)
+    → NativeInRange e mode → NativeInRange f other
+    → node_number (nodes.Native e mode) ≡ node_number (nodes.Native f other)
     → nodes.Native e mode ≡ nodes.Native f other
 native_one one e f mode other x y same =
     let fields = same_fields (word_of (expr_of e)) (word_of (expr_of f)) mode other x.few y.few same in
@@ -42,7 +43,7 @@ enforcer_one (Redistribute o) (Redistribute p) x y same = let number_is : o ≡ 
 enforcer_one e f x y same = absurd (omega arith)
 
 pub number_names_one : ((e f : ExprParts) → IsPacked e → IsPacked f → word_of e ≡ word_of f → e ≡ f) → (k l : NodeKind)
-    → IsNodeInRange k → IsNodeInRange l → number_of k ≡ number_of l → k ≡ l
+    → IsNodeInRange k → IsNodeInRange l → node_number k ≡ node_number l → k ≡ l
 number_names_one one (nodes.Native e mode) (nodes.Native f other) x y same = native_one one e f mode other x y same
 number_names_one one (nodes.Native e mode) (nodes.Enforcer f) x y same = let small = enforcer_small f y in
     absurd (omega arith)
@@ -51,11 +52,11 @@ number_names_one one (nodes.Enforcer e) (nodes.Native f other) x y same = let sm
 number_names_one one (nodes.Enforcer e) (nodes.Enforcer f) x y same = ap nodes.Enforcer (enforcer_one e f x y same)
 
 -- a number that is in none of the parts is that of no node
-pub no_kind : (n : ℕ) → ((e : PhysicalExpr) (mode : ℕ) → NativeInRange e mode → n ≢ number_of (nodes.Native e mode))
+pub no_kind : (n : ℕ) → ((e : PhysicalExpr) (mode : ℕ) → NativeInRange e mode → n ≢ node_number (nodes.Native e mode))
     → n ≢ 1 → n ≢ 2
     → ((o : ℕ) → 1 ≤ o → o ≤ 60 → n ≢ 64 + o) → ((o : ℕ) → 1 ≤ o → o ≤ 60 → n ≢ 128 + o)
     → ((o : ℕ) → o < 60 → n ≢ 192 + o)
-    → (kind : NodeKind) → IsNodeInRange kind → n ≢ number_of kind
+    → (kind : NodeKind) → IsNodeInRange kind → n ≢ node_number kind
 no_kind n no_native no_gather no_broadcast no_sort no_merge no_move (nodes.Native e mode) in_range is =
     no_native e mode in_range is
 no_kind n no_native no_gather no_broadcast no_sort no_merge no_move (nodes.Enforcer Gather) in_range is = no_gather is

@@ -2,7 +2,7 @@
 use Rattle.std.specs.Prelude.{ℕ, ◌≡◌, ◌≤◌, ◌<◌, ⊤}
 use Rattle.query_core.specs.Expressions.{IsPacked, expr_of}
 use Rattle.query_core.specs.declared.expressions.PhysicalExpr.{PhysicalExpr}
-use Rattle.plan_space.specs.Nodes.{number_of, node_modes}
+use Rattle.plan_space.specs.Nodes.{node_number, node_modes}
 use Rattle.plan_space.specs.declared.nodes.Enforcer.{Enforcer}
 use Rattle.plan_space.specs.declared.nodes.Enforcer.TheVariants.{Gather, Broadcast, Sort, GatherMerge, Redistribute}
 use Rattle.plan_space.specs.declared.nodes.NodeKind.{NodeKind}
@@ -34,5 +34,5 @@ IsNodeInRange (nodes.Enforcer enforcer) = EnforcerInRange enforcer
 
 -- the program's node is this one
 pub record IsNode (node : Node) (kind : NodeKind) : Type 0 where
-  pub number : node.0 ≡ number_of kind
+  pub number : node.0 ≡ node_number kind
   pub in_range : IsNodeInRange kind

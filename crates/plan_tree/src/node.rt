@@ -5,7 +5,7 @@ ghost use Rattle.std.specs.Prelude.{ℕ, ◌≡◌, ◌≢◌, ◌↔◌, ◌<�
 ghost use Rattle.query_core.specs.Expressions.{HasWord, expr_of};
 ghost use Rattle.query_core.specs.Goals.{FitsExpr};
 ghost use Rattle.query_core.specs.declared.expressions.PhysicalExpr.{PhysicalExpr as AnyPhysicalExpr};
-ghost use Rattle.plan_space.specs.Nodes.{enforcer_number as the_enforcer_number, node_modes, number_of};
+ghost use Rattle.plan_space.specs.Nodes.{enforcer_number as the_enforcer_number, node_modes, node_number};
 ghost use Rattle.plan_space.specs.declared.nodes.NodeKind.{NodeKind as AnyNodeKind};
 ghost use Rattle.plan_space.specs.declared.nodes.NodeKind.TheVariants.{Native};
 ghost use Rattle.plan_tree.specs.Nodes.{EnforcerInRange, IsNodeInRange, IsNode, NativeInRange};
@@ -79,7 +79,7 @@ impl Node {
 /// No two nodes in range have one number.
 pub fn nodes_are_one()
     ensures { (k l : AnyNodeKind) → IsNodeInRange k → IsNodeInRange l →
-        number_of k ≡ number_of l → k ≡ l }
+        node_number k ≡ node_number l → k ≡ l }
 {
     expressions_are_one();
 }
@@ -99,10 +99,10 @@ fn enforcer_number(enforcer: Enforcer) -> u64
 
 // The expression and the mode that have this number.
 fn native_of(number: u64) -> Option<(PhysicalExpr, u32)>
-    ensures number { IfSome result (λ n. number ≡ number_of (Native n.0 n.1)) }
+    ensures number { IfSome result (λ n. number ≡ node_number (Native n.0 n.1)) }
     ensures in_range { IfSome result (λ n. NativeInRange n.0 n.1) }
     ensures none { IfNone result ((e : AnyPhysicalExpr) (mode : ℕ) → NativeInRange e mode →
-        number ≢ number_of (Native e mode)) }
+        number ≢ node_number (Native e mode)) }
 {
     expressions_are_one();
     let past = number.checked_sub(NATIVE)?;

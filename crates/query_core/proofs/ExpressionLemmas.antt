@@ -5,7 +5,7 @@ use Rattle.query_core.specs.Keys.{key_number, IsGroupInRange}
 use Rattle.query_core.specs.Expressions.{expr_of, fields, key_field, fields_of}
 use Rattle.query_core.specs.Expressions.{left_number, right_number, packed, word_of, AreInRange, HasWord, IsPacked}
 use Rattle.query_core.specs.Expressions.{IsJoinNumber}
-use Rattle.query_core.specs.Finding.{number_of, index_of}
+use Rattle.query_core.specs.Finding.{operator_number, index_of}
 use Rattle.query_core.specs.declared.expressions.TheConstants.{OPERATORS}
 use Rattle.query_core.specs.Goals.{FitsExpr}
 use Rattle.query_core.specs.declared.keys.TheConstants.{KEYS}
@@ -179,7 +179,7 @@ pub word_ordered : (e f : ExprParts) → IsPacked e → IsPacked f → key_numbe
 word_ordered e f in_e in_f less = let small = fields_small e in_e in omega arith
 
 -- in a group words stand in the order of their operators' numbers
-pub number_ordered : (e f : ExprParts) → IsPacked e → e.group ≡ f.group → number_of e < number_of f
+pub number_ordered : (e f : ExprParts) → IsPacked e → e.group ≡ f.group → operator_number e < operator_number f
     → word_of e < word_of f
 number_ordered e f in_e same less =
     let small = fields_small e in_e in
@@ -187,7 +187,7 @@ number_ordered e f in_e same less =
     omega arith
 
 -- those of one number stand in the order of their indexes
-pub index_ordered : (e f : ExprParts) → IsPacked e → e.group ≡ f.group → number_of e ≡ number_of f
+pub index_ordered : (e f : ExprParts) → IsPacked e → e.group ≡ f.group → operator_number e ≡ operator_number f
     → index_of e < index_of f → word_of e < word_of f
 index_ordered e f in_e same number less =
     let small = fields_small e in_e in
@@ -196,5 +196,5 @@ index_ordered e f in_e same number less =
 
 -- an operator has a word below the bound where the bound is so far from the group's words that others come first
 pub number_below : (e : ExprParts) (bound key : ℕ) → IsPacked e → key ≡ key_number e.group
-    → number_of e < (bound - key * 2 ^ 36) / 2 ^ 31 → word_of e < bound
+    → operator_number e < (bound - key * 2 ^ 36) / 2 ^ 31 → word_of e < bound
 number_below e bound key in_e is less = let small = fields_small e in_e in omega arith

@@ -5,7 +5,7 @@ use Rattle.query_core.specs.Keys.{IsGroup}
 use Rattle.query_core.specs.Expressions.{fields, fields_of, children_of, word_of, HasShape, IsCandidate, IsPacked}
 use Rattle.query_core.specs.Expressions.{IsChildrenOf}
 use Rattle.query_core.specs.Candidates.{IsAfter, IsNext, IsLast}
-use Rattle.query_core.specs.Finding.{expr, number_of, index_of, IsHeldBy, IsOver, IsMadeOf, IsAt}
+use Rattle.query_core.specs.Finding.{expr, operator_number, index_of, IsHeldBy, IsOver, IsMadeOf, IsAt}
 use Rattle.query_core.specs.Finding.{FindsFrom}
 use Rattle.query_core.specs.declared.query.Query.{Query}
 use Rattle.query_core.specs.declared.words.Expr.{Expr}
@@ -38,13 +38,14 @@ module _ (q : Query) (group : KeyParts) where
 
     -- the words of what a group can hold stand in the order of the operators' numbers
     pub numbers_rise : (children : Children) (e f : ExprParts) → IsOver q group children e → IsOver q group children f
-        → number_of e < number_of f → word_of e < word_of f
+        → operator_number e < operator_number f → word_of e < word_of f
     numbers_rise children e f (held, over) (other, other_over) less =
         number_ordered e f (held_packed e held) (held.0 ∙ sym other.0) less
 
     -- and those of one number in the order of their indexes
     pub indexes_rise : (children : Children) (number : ℕ) (e f : ExprParts)
-        → IsAt (IsOver q group children) number_of number e → IsAt (IsOver q group children) number_of number f
+        → IsAt (IsOver q group children) operator_number number e
+        → IsAt (IsOver q group children) operator_number number f
         → index_of e < index_of f → word_of e < word_of f
     indexes_rise children number e f ((held, over), is) ((other, other_over), other_is) less =
         index_ordered e f (held_packed e held) (held.0 ∙ sym other.0) (is ∙ sym other_is) less
@@ -88,10 +89,10 @@ module _ (q : Query) (group : KeyParts) where
   -- the same by number and index
   pub finds_numbered : (children : Children) (number index bound : ℕ) (found : Option Expr)
       → FindsFrom (IsMadeOf q group (fields number index children)) bound found
-      → FindsFrom (IsAt (IsAt (IsOver q group children) number_of number) index_of index) bound found
+      → FindsFrom (IsAt (IsAt (IsOver q group children) operator_number number) index_of index) bound found
   finds_numbered children number index bound found =
       finds_as (IsMadeOf q group (fields number index children))
-      (IsAt (IsAt (IsOver q group children) number_of number) index_of index) bound found
+      (IsAt (IsAt (IsOver q group children) operator_number number) index_of index) bound found
       (λ e (held, is). (
         ((held, ap (λ (f : Fields). f.children) is), ap (λ (f : Fields). f.number) is),
         ap (λ (f : Fields). f.index) is,

@@ -25,8 +25,8 @@ abbrev pub index_count : Query → ℕ → ℕ
 index_count q t = option_map_or (λ table. length table.indexes) (slice_get q.tables t) 0
 
 -- the number of an expression's operator
-abbrev pub number_of : ExprParts → ℕ
-number_of e = (fields_of e.operator).number
+abbrev pub operator_number : ExprParts → ℕ
+operator_number e = (fields_of e.operator).number
 
 -- the number of the index that it reads, else 0
 abbrev pub index_of : ExprParts → ℕ

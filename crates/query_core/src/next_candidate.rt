@@ -8,7 +8,7 @@ ghost use Rattle.query_core.specs.Keys.{IsGroupInRange, IsGroup, IsKey, NamesGro
 ghost use Rattle.query_core.specs.Expressions.{word_of, table_in as the_table_in, AreInRange, IsPacked};
 ghost use Rattle.query_core.specs.Candidates.{IsAfter, IsNext, IsLast};
 ghost use Rattle.query_core.specs.Finding.{expr, index_count as the_index_count, sooner_of};
-ghost use Rattle.query_core.specs.Finding.{number_of, index_of, left_of};
+ghost use Rattle.query_core.specs.Finding.{operator_number, index_of, left_of};
 ghost use Rattle.query_core.specs.Finding.{FindsFrom, IsAt, IsHeldBy, IsJoined, IsMadeOf, IsOver};
 
 use crate::expressions::{Children, ExprParts, Fields, OPERATORS, Operator};
@@ -98,7 +98,7 @@ impl Query {
     ) -> Option<Expr>
         requires known { IsGroup self.now group }
         requires in_range { AreInRange children }
-        ensures { FindsFrom (IsAt (IsOver self.now group children) number_of number) bound result }
+        ensures { FindsFrom (IsAt (IsOver self.now group children) operator_number number) bound result }
     {
         for index in 0..self.index_limit(table_in(group)) {
             let fields = Fields::new(number, index as u32, children);
@@ -148,7 +148,7 @@ impl Query {
 // The number of the first operator with which a word of the group may not be below the bound.
 fn first_number(group: KeyParts, bound: u64) -> u64
     requires { IsGroupInRange group }
-    ensures { (e : ExprParts) → IsPacked e → e.group ≡ group → number_of e < result →
+    ensures { (e : ExprParts) → IsPacked e → e.group ≡ group → operator_number e < result →
         word_of e < bound }
 {
     let first = (Key::make(group).0 as u64) << 36;

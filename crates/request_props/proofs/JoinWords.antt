@@ -8,7 +8,7 @@ use Rattle.std.proofs.lemmas.List.Elements.{All-map}
 use Rattle.query_core.specs.Keys.{IsGroupInRange, IsGroup, key_number, top_of}
 use Rattle.query_core.specs.Expressions.{fields, fields_of, children_of, packed, word_of, FallsInto, IsJoinNumber}
 use Rattle.query_core.specs.Expressions.{AreInRange, IsPacked}
-use Rattle.query_core.specs.Finding.{expr, number_of, IsAt, IsBefore, IsHeldBy, IsJoined}
+use Rattle.query_core.specs.Finding.{expr, operator_number, IsAt, IsBefore, IsHeldBy, IsJoined}
 use Rattle.query_core.specs.declared.query.Query.{Query}
 use Rattle.query_core.specs.declared.words.KeyParts.{KeyParts}
 use Rattle.query_core.specs.declared.words.KeyParts.TheVariants.{Join, Agg}
@@ -42,14 +42,14 @@ abbrev past_end : Sides
 past_end = record { left = Agg; right = Agg }
 
 -- the word of what a group holds tells its number
-word_below : (set number : ℕ) (e : ExprParts) → IsPacked e → e.group ≡ Join set → number_of e < number
+word_below : (set number : ℕ) (e : ExprParts) → IsPacked e → e.group ≡ Join set → operator_number e < number
     → word_of e < words_from set number
 word_below set number e in_e same less =
     let small = fields_small e in_e in
     let key : key_number e.group ≡ key_number (Join set) = ap key_number same in
     omega arith
 
-word_at_least : (set number : ℕ) (e : ExprParts) → e.group ≡ Join set → number_of e ≡ number
+word_at_least : (set number : ℕ) (e : ExprParts) → e.group ≡ Join set → operator_number e ≡ number
     → words_from set number ≤ word_of e
 word_at_least set number e same is =
     let key : key_number e.group ≡ key_number (Join set) = ap key_number same in
@@ -76,7 +76,7 @@ module _ (q : Query) (set : ℕ) (small : IsGroupInRange (Join set)) where
 
   -- the joins by the operator of this number
   abbrev IsJoinBy : ℕ → ExprParts → Type 0
-  IsJoinBy number e = IsAt (IsJoined q set) number_of number e
+  IsJoinBy number e = IsAt (IsJoined q set) operator_number number e
 
   -- each has the word of its sides
   word_by_sides : (number : ℕ) (e : ExprParts) → IsJoinBy number e
@@ -112,7 +112,7 @@ module _ (q : Query) (set : ℕ) (small : IsGroupInRange (Join set)) where
   ]
 
   -- the numbers of its joins are those of joins
-  joined_number : (e : ExprParts) → IsJoined q set e → IsJoinNumber (number_of e)
+  joined_number : (e : ExprParts) → IsJoined q set e → IsJoinNumber (operator_number e)
   joined_number e (held, (a, b, falls, over)) = number_in e.operator (top_of q a) (top_of q b) over
 
   module _ (found : List Sides) (all : AreAllSides q set found) where
@@ -159,10 +159,11 @@ module _ (q : Query) (set : ℕ) (small : IsGroupInRange (Join set)) where
     module _ (known : IsGroup q (Join set)) where
       -- the word of the join of all tables, and behind it those of the first operators over two groups
       words_upto : (place : ℕ) → place ≤ AFTER_JOINS - FIRST_JOIN
-          → AreWordsOf (IsBefore (IsHeldBy q (Join set)) number_of (FIRST_JOIN + place)) (words_by set found place)
+          → AreWordsOf (IsBefore (IsHeldBy q (Join set)) operator_number (FIRST_JOIN + place))
+          (words_by set found place)
       words_upto zero upto =
-          words_as (λ e. e ≡ many_of set) (IsBefore (IsHeldBy q (Join set)) number_of (FIRST_JOIN + zero)) _
-          (λ e same. subst (IsBefore (IsHeldBy q (Join set)) number_of (FIRST_JOIN + zero)) (sym same)
+          words_as (λ e. e ≡ many_of set) (IsBefore (IsHeldBy q (Join set)) operator_number (FIRST_JOIN + zero)) _
+          (λ e same. subst (IsBefore (IsHeldBy q (Join set)) operator_number (FIRST_JOIN + zero)) (sym same)
           ((refl, (set, refl)), omega arith))
           (λ e (held, less). elim (held_joins e held) [
             | inl many ↦ many
@@ -172,20 +173,20 @@ module _ (q : Query) (set : ℕ) (small : IsGroupInRange (Join set)) where
       words_upto (suc place) upto =
           let Held = IsHeldBy q (Join set) in
           let number = FIRST_JOIN + place in
-          words_as (λ e. IsBefore Held number_of number e ⊎ IsJoinBy number e)
-          (IsBefore Held number_of (FIRST_JOIN + suc place)) _
+          words_as (λ e. IsBefore Held operator_number number e ⊎ IsJoinBy number e)
+          (IsBefore Held operator_number (FIRST_JOIN + suc place)) _
           (λ e both. elim both [
             | inl (held, less) ↦ (held, omega (arith, less))
             | inr ((held, joined), is) ↦ (held, omega (arith, is))
           ])
-          (λ e (held, less). elim (cases_lt (number_of e) number) [
+          (λ e (held, less). elim (cases_lt (operator_number e) number) [
             | inl lesser ↦ inl (held, lesser)
             | inr more ↦ elim (held_joins e held) [
-              | inl many ↦ absurd (omega (arith, more, ap number_of many))
+              | inl many ↦ absurd (omega (arith, more, ap operator_number many))
               | inr joined ↦ inr (joined, omega (arith, less, more))
             ]
           ])
-          (words_of_both (IsBefore Held number_of number) (IsJoinBy number) (words_from set number)
+          (words_of_both (IsBefore Held operator_number number) (IsJoinBy number) (words_from set number)
           (words_by set found place) (join_words set number found)
           (λ e (held, less). word_below set number e (held_packed q (Join set) known e held) held.0 less)
           (λ e ((held, joined), is). word_at_least set number e held.0 is)
@@ -202,8 +203,8 @@ module _ (q : Query) (set : ℕ) (small : IsGroupInRange (Join set)) where
                 (e, held_candidate q (Join set) known e held, held.0, is);
             complete = λ w (e, candidate, same, is).
                 let held = candidate_held q (Join set) e candidate same in
-                let less : number_of e < FIRST_JOIN + (AFTER_JOINS - FIRST_JOIN) = elim (held_joins e held) [
-                  | inl many ↦ omega (arith, ap number_of many)
+                let less : operator_number e < FIRST_JOIN + (AFTER_JOINS - FIRST_JOIN) = elim (held_joins e held) [
+                  | inl many ↦ omega (arith, ap operator_number many)
                   | inr joined ↦ omega (arith, (joined_number e joined).1)
                 ] in
                 subst (Contains (words_over set found)) is (are.complete e (held, less));

@@ -22,7 +22,7 @@ pub returns : goal.returns
 returns c q group wanted answer fits (plan, least, is) = (
   plan,
   least,
-  c.settled_is_least.ensures q group wanted plan fits (record {
+  c.best_of_all_is_least.ensures q group wanted plan fits (record {
     best_serves = best_serves q (c.choices_serve.ensures q) group wanted plan fits least.choice;
     enforcers = λ e among. least.enforcers e among tt;
     members = λ e mode member of_group. least.members e mode member of_group tt;

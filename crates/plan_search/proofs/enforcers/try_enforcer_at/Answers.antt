@@ -6,7 +6,7 @@ use Rattle.std.specs.Prelude.{slice_get}
 use Rattle.plan_space.specs.Cost.{most_of_all}
 use Rattle.plan_search.specs.Places.{place_at, place_of}
 use Rattle.plan_search.specs.KeptPlans.{cost_at, kept_at, IsPlanAt}
-use Rattle.plan_search.specs.BestSoFar.{GoesOverPlace, IsPlaceSettled, enforcer_number, cheaper_of}
+use Rattle.plan_search.specs.BestSoFar.{GoesOverPlace, BeatsPlace, number_at_place, cheaper_of}
 use Rattle.plan_tree.proofs.FoundEnforcers.{some_enforced, none_enforced}
 use Rattle.plan_search.proofs.Enforcing.{below_small, lacking_goes, enforcer_goes}
 use Rattle.plan_search.proofs.EnforcerNumbers.{last_number}
@@ -81,7 +81,7 @@ returns-in_default c =
     let none = none_enforced (slice_get (enforcers_of c.args.wanted) c.args.n)
     (subst (λ r. IsEnforced r (slice_get (enforcers_of c.args.wanted) c.args.n)) c.in_default.is
     (c.enforcer.ensures.fitting c.args.group named c.requires.fits)) in
-    goes_not q c.args.search.answers.now c.args.group c.args.wanted (enforcer_number c.args.wanted c.args.n)
-    (enforcer_number c.args.wanted (c.args.n + 1))
-    (IsPlaceSettled q c.args.group c.args.wanted c.args.n) c.args.best.now (last_number c.args.wanted c.args.n none)
+    goes_not q c.args.search.answers.now c.args.group c.args.wanted (number_at_place c.args.wanted c.args.n)
+    (number_at_place c.args.wanted (c.args.n + 1))
+    (BeatsPlace q c.args.group c.args.wanted c.args.n) c.args.best.now (last_number c.args.wanted c.args.n none)
     (λ tree e is. let never : None ≡ Some e = sym none ∙ is in cc)

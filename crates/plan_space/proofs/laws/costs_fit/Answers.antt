@@ -16,7 +16,7 @@ returns c =
     let packed : (q : Query) → (e : ExprParts) → IsMember q e → IsPacked e =
     λ q e member. c.candidates_are_known.ensures.packed q e (c.members_are_candidates.ensures q e member) in
     let known : (q : Query) → AreKnown (IsMember q) q = λ q. record {
-      settled = least_at_most (IsMember q) (packed q) c.expressions_are_one.ensures.expressions q;
+      at_most_each = least_at_most (IsMember q) (packed q) c.expressions_are_one.ensures.expressions q;
       ordered = is_ordered q ((c.listing_is_one.ensures (found_orders q) (orders_of q)).1 refl).rises;
       candidates = c.members_are_candidates.ensures q;
       packed = packed q;

@@ -1,5 +1,5 @@
 use Rattle.std.proofs.Common.{◌≡◌, Some, ap, sym, ◌∙◌, subst, arith}
-use Rattle.plan_space.specs.Nodes.{number_of}
+use Rattle.plan_space.specs.Nodes.{node_number}
 use Rattle.plan_space.specs.declared.nodes.NodeKind.{NodeKind}
 use Rattle.plan_space.specs.declared.nodes.NodeKind.TheVariants.{Native}
 use Rattle.plan_tree.specs.Nodes.{IsNode, NativeInRange}
@@ -10,7 +10,7 @@ use Rattle.plan_tree.proofs.node.Node.kind.Goals as goal
 pub returns-in-Some : goal.returns-in-Some
 returns-in-Some c =
     let kind = Native c.in-Some.expr c.in-Some.mode in
-    let number : c.args.self.0 ≡ number_of (Native c.in-Some.expr c.in-Some.mode) =
+    let number : c.args.self.0 ≡ node_number (Native c.in-Some.expr c.in-Some.mode) =
     rw (c.in-Some.expr-is, c.in-Some.mode-is) c.in-Some.ensures.number in
     let in_range : NativeInRange c.in-Some.expr c.in-Some.mode =
     rw (c.in-Some.expr-is, c.in-Some.mode-is) c.in-Some.ensures.in_range in
