@@ -15,6 +15,7 @@ pub struct Best {
 
 /// Of two answers the one that costs less, and where they cost the same the one with the lesser
 /// node.
+#[inline(always)]
 pub fn lesser(first: Option<Best>, second: Option<Best>) -> Option<Best>
     ensures { result ≡ the_lesser first second }
 {
@@ -25,6 +26,7 @@ pub fn lesser(first: Option<Best>, second: Option<Best>) -> Option<Best>
     }
 }
 
+#[inline(always)]
 fn is_lesser(first: Best, second: Best) -> bool
     ensures { result ≡ the_is_lesser first second }
 {

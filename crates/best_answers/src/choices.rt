@@ -83,6 +83,7 @@ pub fn best_of_enforcer(
 }
 
 // What the answers for what the alternative asks cost together, where each is there.
+#[inline(always)]
 fn cost_below(alt: Alt, below: (Option<Best>, Option<Best>)) -> Option<u64>
     requires { IfSome (costs_below (answers_asked alt below)) (λ cost. cost ≤ most_of_all) }
     ensures value { result ≡ costs_below (answers_asked alt below) }
@@ -98,6 +99,7 @@ fn cost_below(alt: Alt, below: (Option<Best>, Option<Best>)) -> Option<u64>
     }
 }
 
+#[inline(always)]
 fn cost_of_one(below: Option<Best>) -> Option<u64>
     ensures { result ≡ costs_below (below ∷ []) }
 {
@@ -108,6 +110,7 @@ fn cost_of_one(below: Option<Best>) -> Option<u64>
 }
 
 // The node, which costs so much itself, over plans that cost so much together.
+#[inline(always)]
 fn over(node: Node, local: u64, below: Option<u64>) -> Option<Best>
     requires local { local ≤ most_cost }
     requires below { IfSome below (λ cost. cost ≤ most_of_all) }

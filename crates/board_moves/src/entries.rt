@@ -9,6 +9,7 @@ use crate::words::Words;
 use goal_board::{Board, GoalRules, Hints, Inserted, Seat};
 
 /// Puts a goal into the table, and hints it where it wasn't there before.
+#[inline(always)]
 pub fn put_goal<R: GoalRules, H: Hints>(
     board: &Board<R>,
     seat: &mut Seat<R>,

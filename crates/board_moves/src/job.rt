@@ -20,6 +20,7 @@ impl Job {
     ghost use Rattle.board_moves.specs.Seats.{SeatAwaitsChild, SeatIsReady, SeatEnds};
 
     /// The job of a right that was just claimed.
+    #[inline(always)]
     pub fn of(right: Right) -> Job
         requires { right.waits ≡ 0 }
         ensures { result.right ≡ right }
@@ -28,6 +29,7 @@ impl Job {
     }
 
     /// The goal's word.
+    #[inline(always)]
     pub fn goal(&self) -> u64
         ensures { result ≡ self.now.right.goal }
     {
@@ -35,6 +37,7 @@ impl Job {
     }
 
     /// Whether the goal waits for something.
+    #[inline(always)]
     pub fn is_waiting(&self) -> bool
         ensures { IsTrue result ↔ (1 ≤ self.now.right.waits) }
     {
@@ -42,6 +45,7 @@ impl Job {
     }
 
     /// The work is done, with this answer, unless the goal waits for something.
+    #[inline(always)]
     pub fn progress(&self, answer: Answer) -> Progress
         ensures { IsDoneUnlessWaiting self.now.right answer result }
     {
@@ -54,6 +58,7 @@ impl Job {
 
     /// Sees whether a child of the goal is finished. Otherwise puts it in, and waits for it, unless the goal waits for
     /// eight others.
+    #[inline(always)]
     pub fn await_child<R: GoalRules, H: Hints>(
         &mut self,
         board: &Board<R>,

@@ -93,6 +93,7 @@ impl<R: GoalRules> Board<R> {
     }
 
     /// The answer of the goal at a place, if it is finished.
+    #[inline(always)]
     pub fn answer(&self, seat: &mut Seat<R>, at: u32) -> Option<Answer>
         requires seat { IsSeatOf R.meaning self.now seat.old }
         requires near { at < self.now.setup.capacity }

@@ -17,6 +17,7 @@ pub enum Phase {
 
 impl Phase {
     /// The goal of a group.
+    #[inline(always)]
     pub fn of_group(self, group: KeyParts) -> GoalKind
         ensures { result ≡ phase_goal_of_group self group }
     {
@@ -27,6 +28,7 @@ impl Phase {
     }
 
     /// The goal of an expression.
+    #[inline(always)]
     pub fn of_expr(self, e: ExprParts) -> GoalKind
         ensures { result ≡ phase_goal_of_expr self e }
     {
@@ -37,6 +39,7 @@ impl Phase {
     }
 
     /// Whether its rules are those that explore.
+    #[inline(always)]
     pub fn explores(self) -> bool
         ensures { result ≡ does_explore self }
     {
@@ -47,6 +50,7 @@ impl Phase {
     }
 
     /// Whether the rule is one of its rules, and applies to the expression.
+    #[inline(always)]
     pub fn tries(self, query: &Query, e: ExprParts, rule: Rule) -> bool
         ensures { IsTrue result ↔ IsTried query.now self e rule }
     {

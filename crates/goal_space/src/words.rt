@@ -4,18 +4,22 @@
 ghost use Rattle.std.specs.Prelude.{◌≡◌, ◌↔◌, ◌<◌, ◌≤◌, ◌^◌, Some, MatchOption};
 ghost use Rattle.query_core.specs.declared.words.GoalParts.{GoalParts};
 ghost use Rattle.query_core.specs.Goals.{goal_bit, goal_number, FitsGoal};
+ghost use Rattle.query_core.specs.Expressions.{expr_of, HasWord as HasExprWord};
+ghost use Rattle.request_props.specs.Requests.{code_of, IsRequestInRange};
+ghost use Rattle.xform_rules.specs.Rules.{rule_number};
 ghost use Rattle.goal_space.specs.declared.goals.GoalKind.{GoalKind};
 ghost use Rattle.goal_space.specs.Words.{goal_word, parts_of, HasWord, IsGoalInRange};
 
 use crate::goals::GoalKind;
 use query_core::{
-    Expr, Goal, GoalParts, Key, expressions_are_one, goals_are_one, groups_are_known,
+    Expr, Goal, GoalParts, Key, PhysicalExpr, expressions_are_one, goals_are_one, groups_are_known,
 };
-use request_props::{code, request_of};
-use xform_rules::{rule_of, rules_are_known};
+use request_props::{Dist, Request, code, request_of};
+use xform_rules::{Rule, rule_of, rules_are_known};
 
 impl GoalKind {
     /// The word of the goal.
+    #[inline(always)]
     pub fn word(self) -> Goal
         requires { IsGoalInRange self }
         ensures number { result.0 ≡ goal_word self }
@@ -25,6 +29,7 @@ impl GoalKind {
     }
 
     /// The goal of this word; none for a number that is the word of no goal.
+    #[inline(always)]
     pub fn of(word: Goal) -> Option<GoalKind>
         ensures exact { (k : GoalKind) → HasWord k word.0 ↔ (result ≡ Some k) }
     {
@@ -36,6 +41,29 @@ impl GoalKind {
         }
     }
 
+    /// The goal that the word is known to have.
+    #[inline(always)]
+    pub fn known(word: Goal) -> GoalKind
+        requires { (k : GoalKind) × HasWord k word.0 }
+        ensures only { (k : GoalKind) → HasWord k word.0 → k ≡ result }
+    {
+        // For the proof: a word has the fields of its goal.
+        goal_kinds_are_one();
+        goals_are_one();
+        match word.fields() {
+            GoalParts::Exp(key) => GoalKind::Exp(key.known_parts()),
+            GoalParts::ExpE(expr) => GoalKind::ExpE(expr.known_parts()),
+            GoalParts::Xf(expr, number) => GoalKind::Xf(expr.known_parts(), known_rule(number)),
+            GoalParts::Imp(key) => GoalKind::Imp(key.known_parts()),
+            GoalParts::ImpE(expr) => GoalKind::ImpE(expr.known_parts()),
+            GoalParts::Opt(key, code) => GoalKind::Opt(key.known_parts(), known_request(code)),
+            GoalParts::OptE(expr, code) => {
+                GoalKind::OptE(known_physical(expr), known_request(code))
+            }
+        }
+    }
+
+    #[inline(always)]
     fn parts(self) -> GoalParts
         requires { IsGoalInRange self }
         ensures fits { FitsGoal result }
@@ -65,6 +93,41 @@ pub fn goal_kinds_are_one()
     groups_are_known();
     rules_are_known();
     goals_are_one();
+}
+
+// The rule of this number, where one has it.
+fn known_rule(number: u32) -> Rule
+    ensures { (rule : Rule) → rule_number rule ≡ number → rule ≡ result }
+{
+    match rule_of(number) {
+        Some(rule) => rule,
+        None => Rule::ExpandNAry,
+    }
+}
+
+// The request of this code, where one has it.
+fn known_request(code: u32) -> Request
+    ensures { (wanted : Request) → IsRequestInRange wanted → code_of wanted ≡ code → wanted ≡ result }
+{
+    match request_of(code) {
+        Some(wanted) => wanted,
+        None => Request {
+            dist: Dist::One,
+            order: 0,
+        },
+    }
+}
+
+// The physical expression of this word.
+#[inline(always)]
+fn known_physical(word: Expr) -> PhysicalExpr
+    requires { (e : PhysicalExpr) × HasExprWord word.0 (expr_of e) }
+    ensures { (e : PhysicalExpr) → HasExprWord word.0 (expr_of e) → e ≡ result }
+{
+    match word.known_parts().as_physical() {
+        Some(e) => e,
+        None => unreachable!(),
+    }
 }
 
 // The goal with these keys, words, numbers and codes.

@@ -83,7 +83,7 @@ IsOneOfGroups groups group = (groups.0 ≡ Some group) ⊎ (groups.1 ≡ Some gr
 abbrev pub IsOriginOf : Query → Option KeyParts → ExprParts → Type 0
 IsOriginOf q found e = (group : KeyParts) × (found ≡ Some group) × (e ≡ origin_of q group)
 
--- which has a word
+-- the origin of the group has a word, if there is a group
 abbrev pub HasPackedOrigin : Query → Option KeyParts → Type 0
 HasPackedOrigin q found = (group : KeyParts) → found ≡ Some group → IsPacked (origin_of q group)
 

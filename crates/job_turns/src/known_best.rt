@@ -32,6 +32,7 @@ pub(crate) enum KnownBest {
 
 impl KnownBest {
     /// What is known of the best answer of both.
+    #[inline(always)]
     pub(crate) fn or(self, other: KnownBest) -> KnownBest
         ensures { result ≡ best_of_both self other }
     {
@@ -46,6 +47,7 @@ impl KnownBest {
 }
 
 /// Awaits a child of the goal, which has this word, and tells its answer. None where it found every cell taken.
+#[inline(always)]
 pub(crate) fn await_best<'q, H: Hints>(
     search: &BoardSearch<'_, 'q>,
     turn: &mut JobTurn<'_, 'q, H>,
@@ -68,6 +70,7 @@ pub(crate) fn await_best<'q, H: Hints>(
 }
 
 /// Puts in a child of the goal, which has this word. False where it found every cell taken.
+#[inline(always)]
 pub(crate) fn put_child<'q, H: Hints>(
     search: &BoardSearch<'_, 'q>,
     turn: &mut JobTurn<'_, 'q, H>,
@@ -89,6 +92,7 @@ pub(crate) fn put_child<'q, H: Hints>(
 }
 
 /// How far the goal is, where this was found.
+#[inline(always)]
 pub(crate) fn progress_of(job: &Job, found: Option<KnownBest>) -> Progress
     ensures { IsProgressOf job.now.right found result }
 {
@@ -100,6 +104,7 @@ pub(crate) fn progress_of(job: &Job, found: Option<KnownBest>) -> Progress
 }
 
 // The answer that these words are.
+#[inline(always)]
 fn best_of(answer: Answer) -> Option<Best>
     ensures { TellsBest answer.cost answer.node result }
 {
@@ -113,6 +118,7 @@ fn best_of(answer: Answer) -> Option<Best>
 }
 
 // The words of an answer.
+#[inline(always)]
 fn answer_of(best: Option<Best>) -> Answer
     ensures { AreWordsOf best result.cost result.node }
 {

@@ -13,6 +13,7 @@ use xform_rules::{Rule, splits_are_complete};
 
 /// Whether the rules make the expression, which has some mode, of any two sides: both rules that turn joins are on, and
 /// so is the one that gives this join. A hash join isn't looked at, since it has modes without an equality.
+#[inline(always)]
 pub(crate) fn is_made(query: &Query, e: PhysicalExpr) -> bool
     requires candidate { IsCandidate query.now (expr_of e) }
     requires has_mode { (mode : ℕ) × IsSome (line_of query.now e mode) }
@@ -28,6 +29,7 @@ pub(crate) fn is_made(query: &Query, e: PhysicalExpr) -> bool
 }
 
 // Whether both rules that turn joins into joins are on.
+#[inline(always)]
 fn turns_joins(query: &Query) -> bool
     ensures { IsTrue result ↔ AreJoinRulesOn query.now }
 {
@@ -35,6 +37,7 @@ fn turns_joins(query: &Query) -> bool
 }
 
 // Whether the query leaves the rule on.
+#[inline(always)]
 fn is_on(query: &Query, rule: Rule) -> bool
     ensures { IsTrue result ↔ IsOn query.now rule }
 {

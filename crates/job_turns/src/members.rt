@@ -49,7 +49,7 @@ pub(crate) fn best_member<'q, H: Hints>(
     let mut known_best = KnownBest::Known(None);
     for place in 0..candidates.len() {
         let sets = sets_at(joins, place);
-        let other = await_candidate(search, turn, candidates[place], sets, wanted)?;
+        let other = await_candidate(search, turn, &candidates[place], sets, wanted)?;
         known_best = known_best.or(other);
     }
     Some(known_best)
@@ -57,20 +57,21 @@ pub(crate) fn best_member<'q, H: Hints>(
 
 // The best answer of a candidate, if it is a member that may serve the request. None where its goal found every
 // cell taken.
+#[inline(always)]
 fn await_candidate<'q, H: Hints>(
     search: &BoardSearch<'_, 'q>,
     turn: &mut JobTurn<'_, 'q, H>,
-    candidate: PhysicalCandidate,
+    candidate: &PhysicalCandidate,
     sets: Option<JoinSets>,
     wanted: Request,
 ) -> Option<KnownBest>
     requires at_work { IsAtWork search.now turn.old (H.capacity turn.old.hints.now) }
-    requires candidate { IsPhysicalOf search.now.query.now candidate.expr.group candidate }
-    requires sets { IfSome sets (AreSetsOf search.now.query.now candidate.expr.operator) }
-    requires goal { IsTurnOf search.now turn.old (Opt candidate.expr.group wanted) }
-    requires implemented { ShowsImplemented search.now turn.old.seat.now candidate.expr.group }
+    requires candidate { IsPhysicalOf search.now.query.now candidate.now.expr.group candidate.now }
+    requires sets { IfSome sets (AreSetsOf search.now.query.now candidate.now.expr.operator) }
+    requires goal { IsTurnOf search.now turn.old (Opt candidate.now.expr.group wanted) }
+    requires implemented { ShowsImplemented search.now turn.old.seat.now candidate.now.expr.group }
     ensures at_work { StaysAtWork search.now turn.old turn.new (H.capacity turn.new.hints.now) }
-    ensures chooses { FindsBestOfMember search.now turn.old candidate.expr wanted result turn.new }
+    ensures chooses { FindsBestOfMember search.now turn.old candidate.now.expr wanted result turn.new }
 {
     // For the proof: the request is one of the query's, and the best of no nodes is none.
     goals_are_known();
@@ -85,23 +86,24 @@ fn await_candidate<'q, H: Hints>(
 }
 
 // The word of the candidate's goal, if it is a member that may serve the request.
+#[inline(always)]
 fn goal_here<'q>(
     search: &BoardSearch<'_, 'q>,
     seat: &mut Seat<Rules<'q>>,
-    candidate: PhysicalCandidate,
+    candidate: &PhysicalCandidate,
     sets: Option<JoinSets>,
     wanted: Request,
 ) -> Option<Goal>
     requires search { IsBoardSearch search.now }
     requires seat { IsSeat search.now.board.now seat.old }
-    requires candidate { IsPhysicalOf search.now.query.now candidate.expr.group candidate }
-    requires sets { IfSome sets (AreSetsOf search.now.query.now candidate.expr.operator) }
+    requires candidate { IsPhysicalOf search.now.query.now candidate.now.expr.group candidate.now }
+    requires sets { IfSome sets (AreSetsOf search.now.query.now candidate.now.expr.operator) }
     requires numbered { IsNumbered search.now.query.now wanted.order }
     requires in_range { IsRequestInRange wanted }
-    requires implemented { ShowsImplemented search.now seat.old candidate.expr.group }
+    requires implemented { ShowsImplemented search.now seat.old candidate.now.expr.group }
     ensures seat { IsSeat search.now.board.now seat.new }
     ensures looks { OnlyLooks (hands seat.old) (hands seat.new) }
-    ensures goal { IsWordOfMember search.now.query.now candidate.expr wanted result }
+    ensures goal { IsWordOfMember search.now.query.now candidate.now.expr wanted result }
 {
     // For the proof: expressions have small words, and what is in a cell is an entry.
     candidates_are_known();
@@ -123,6 +125,7 @@ fn goal_here<'q>(
 }
 
 // What the candidate at this place can give as a join, if that was found.
+#[inline(always)]
 fn sets_at(joins: &[Option<JoinSets>], place: usize) -> Option<JoinSets>
     ensures { result ≡ slice_index_or joins.now place None }
 {

@@ -100,6 +100,7 @@ fn best_mode<'q, H: Hints>(
 }
 
 // The best answer of the expression in the mode, which is there for the request.
+#[inline(always)]
 fn await_mode<'q, H: Hints>(
     search: &BoardSearch<'_, 'q>,
     turn: &mut JobTurn<'_, 'q, H>,
@@ -126,6 +127,7 @@ fn await_mode<'q, H: Hints>(
 }
 
 // The best answer of the expression in the mode.
+#[inline(always)]
 fn await_alternative<'q, H: Hints>(
     search: &BoardSearch<'_, 'q>,
     turn: &mut JobTurn<'_, 'q, H>,
@@ -160,6 +162,7 @@ fn await_alternative<'q, H: Hints>(
 }
 
 // The best answer for what is asked of a child, if something is.
+#[inline(always)]
 fn await_asked<'q, H: Hints>(
     search: &BoardSearch<'_, 'q>,
     turn: &mut JobTurn<'_, 'q, H>,

@@ -49,6 +49,7 @@ pub fn turn<'q, H: Hints>(
 }
 
 // The goal of a job.
+#[inline(always)]
 fn goal_of<'q>(search: &BoardSearch<'_, 'q>, seat: &Seat<Rules<'q>>, job: &Job) -> GoalKind
     requires search { IsBoardSearch search.now }
     requires right { HasRight search.now.board.now seat.now job.now.right }
@@ -57,10 +58,7 @@ fn goal_of<'q>(search: &BoardSearch<'_, 'q>, seat: &Seat<Rules<'q>>, job: &Job) 
     // For the proof: a goal of the query has a word, and no member has it.
     goals_are_known();
     members_are_known();
-    match GoalKind::of(Goal(job.goal())) {
-        Some(goal) => goal,
-        None => unreachable!(),
-    }
+    GoalKind::known(Goal(job.goal()))
 }
 
 // The work of the goal.

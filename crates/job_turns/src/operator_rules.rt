@@ -11,6 +11,7 @@ use query_core::{ExprParts, Operator};
 use xform_rules::{Rule, exploring_rules, implementing_rules};
 
 /// The rules of the phase that are for the expression's operator. No other rule of the phase applies.
+#[inline(always)]
 pub(crate) fn rules_to_try(phase: Phase, e: ExprParts) -> &'static [Rule]
     ensures every { (q : Query) (rule : AnyRule) → IsTried q phase e rule → Contains result.now rule }
 {

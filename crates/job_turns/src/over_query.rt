@@ -16,6 +16,7 @@ use goal_space::GoalKind;
 use query_core::Goal;
 
 /// Awaits a child of the goal.
+#[inline(always)]
 pub(crate) fn await_goal<'q, H: Hints>(
     search: &BoardSearch<'_, 'q>,
     turn: &mut JobTurn<'_, 'q, H>,
@@ -32,6 +33,7 @@ pub(crate) fn await_goal<'q, H: Hints>(
 }
 
 /// Awaits a child of the goal, which has this word.
+#[inline(always)]
 pub(crate) fn await_word<'q, H: Hints>(
     search: &BoardSearch<'_, 'q>,
     turn: &mut JobTurn<'_, 'q, H>,
@@ -51,6 +53,7 @@ pub(crate) fn await_word<'q, H: Hints>(
 }
 
 /// Awaits those of two children that are there. False where one found every cell taken.
+#[inline(always)]
 pub(crate) fn await_both<'q, H: Hints>(
     search: &BoardSearch<'_, 'q>,
     turn: &mut JobTurn<'_, 'q, H>,
@@ -69,6 +72,7 @@ pub(crate) fn await_both<'q, H: Hints>(
 }
 
 /// Awaits a child, if there is one. False where it found every cell taken.
+#[inline(always)]
 pub(crate) fn await_if<'q, H: Hints>(
     search: &BoardSearch<'_, 'q>,
     turn: &mut JobTurn<'_, 'q, H>,

@@ -37,6 +37,7 @@ pub(crate) struct RuleBinding {
 
 /// Puts in a member that the goal asks for, with the origins of the groups that it stands on. False where one found
 /// every cell taken.
+#[inline(always)]
 pub(crate) fn put_brought<'q>(
     search: &BoardSearch<'_, 'q>,
     seat: &mut Seat<Rules<'q>>,
@@ -62,6 +63,7 @@ pub(crate) fn put_brought<'q>(
 }
 
 // Puts in a group's origin, if there is a group.
+#[inline(always)]
 fn put_origin<'q>(
     search: &BoardSearch<'_, 'q>,
     seat: &mut Seat<Rules<'q>>,
@@ -81,6 +83,7 @@ fn put_origin<'q>(
 }
 
 // Puts in a member that the goal asks for.
+#[inline(always)]
 fn put_member<'q>(
     search: &BoardSearch<'_, 'q>,
     seat: &mut Seat<Rules<'q>>,
@@ -100,6 +103,7 @@ fn put_member<'q>(
 }
 
 // The groups that an expression stands on.
+#[inline(always)]
 fn groups_below(e: ExprParts) -> (Option<KeyParts>, Option<KeyParts>)
     ensures { AreGroupsBelow e result }
 {
@@ -171,6 +175,7 @@ fn put_results<'q>(
 }
 
 // Puts in the n-th result, if there are so many.
+#[inline(always)]
 fn put_result<'q>(
     search: &BoardSearch<'_, 'q>,
     seat: &mut Seat<Rules<'q>>,
@@ -195,6 +200,7 @@ fn put_result<'q>(
 }
 
 // The left child's group, where the rule binds a member of it.
+#[inline(always)]
 fn left_group(e: ExprParts, rule: Rule) -> Option<KeyParts>
     ensures { (group : AnyKeyParts) → (result ≡ Some group) ↔ IsLeftOf e rule group }
 {

@@ -2,8 +2,8 @@
 ghost use Rattle.std.specs.Prelude.{ℕ, ◌≡◌, ◌++◌, List, false, IfOk};
 ghost use Rattle.query_core.specs.declared.query.Query.{Query as AnyQuery};
 ghost use Rattle.orca_cli.specs.Searches.{IsSearch};
-ghost use Rattle.orca_cli.specs.Sections.{GoesOn, IsBehind, IsByWorker, StartsMemo, IsMemo, IsSectionText, IsTrace};
-ghost use Rattle.orca_cli.specs.Sections.{StartsTrace, is_asked as the_is_asked};
+ghost use Rattle.orca_cli.specs.Sections.{GoesOn, IsBehind, IsByWorker, IsMemo, IsSectionText, IsTrace};
+ghost use Rattle.orca_cli.specs.Sections.{StartsMemo, StartsTrace, is_asked as the_is_asked};
 ghost use Rattle.orca_cli.specs.Views.{text_of};
 
 use crate::answer::Search;

@@ -24,7 +24,8 @@ use query_core::Query;
 use request_props::Props;
 use std::alloc::{AllocError, Global};
 
-/// The least plan of the query, or that there is none. It looks up the answers that the plan is made of, and no others.
+/// The least plan of the query, or that there is none. It looks up the answers that the plan is made of, and no
+/// others.
 pub fn extract<S: AnswerSource>(
     alloc: Global,
     query: &Query,

@@ -110,7 +110,7 @@ module _ (Member : ExprParts → Type 0) (q : Query) (at_most_each : LeastAreAtM
       let rest = least_kids groups wishes plans kids least.1 of_groups.1 serve.1 valid.1 in (
         (
           at_most_each g wanted plan kid least.0
-          (record { valid = valid.0; of_group = of_groups.0; satisfies = serve.0 }),
+              (record { valid = valid.0; of_group = of_groups.0; satisfies = serve.0 }),
           rest.0,
         ),
         (

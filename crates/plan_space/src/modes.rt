@@ -38,6 +38,7 @@ pub const END: u32 = 192;
 
 impl Mode {
     /// The mode of this number.
+    #[inline(always)]
     pub fn at(number: u32) -> Mode
         ensures { result ≡ mode_at number }
     {
@@ -53,6 +54,7 @@ impl Mode {
 
 impl ModeSets {
     /// No modes.
+    #[inline(always)]
     pub fn none() -> ModeSets
         ensures { (mode : AnyMode) → HasModeIn result mode → ⊥ }
     {
@@ -64,6 +66,7 @@ impl ModeSets {
     }
 
     /// The first number from this one on whose mode is one of these, or one that no mode with a line has.
+    #[inline(always)]
     pub fn next(self, from: u32) -> u32
         ensures from { from ≤ result }
         ensures found { result < END → HasModeIn self (mode_at result) }

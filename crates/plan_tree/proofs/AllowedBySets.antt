@@ -41,26 +41,21 @@ module _ (q : Query) (wanted : Request) (numbered : IsNumbered q wanted.order) (
         λ suits. (dist.1 suits.0, order.1 suits.1),
       )
 
+  allowed_as : (operator : Physical) (by : JoinBy) (left right : KeyParts) → way_of operator ≡ Joins by left right
+      → AreSetsFor q left (λ order. OrderSuits q by left right order) sets → IsAllowed operator
+  allowed_as operator by left right joins are = record {
+    by = by;
+    left = left;
+    right = right;
+    joins = joins;
+    exact = allowed_by by left right are;
+  }
+
   pub join_allowed : (operator : Physical) → AreSetsOf q operator sets → IsAllowed operator
-  join_allowed (physical.HashJoin left right) are = record {
-    by = joins.Hashing;
-    left = left;
-    right = right;
-    joins = refl;
-    exact = allowed_by joins.Hashing left right are;
-  }
-  join_allowed (physical.MergeJoin left right) are = record {
-    by = joins.Merging;
-    left = left;
-    right = right;
-    joins = refl;
-    exact = allowed_by joins.Merging left right are;
-  }
-  join_allowed (physical.LoopJoin left right) are = record {
-    by = joins.Looping;
-    left = left;
-    right = right;
-    joins = refl;
-    exact = allowed_by joins.Looping left right are;
-  }
+  join_allowed (physical.HashJoin left right) are =
+      allowed_as (physical.HashJoin left right) joins.Hashing left right refl are
+  join_allowed (physical.MergeJoin left right) are =
+      allowed_as (physical.MergeJoin left right) joins.Merging left right refl are
+  join_allowed (physical.LoopJoin left right) are =
+      allowed_as (physical.LoopJoin left right) joins.Looping left right refl are
   join_allowed operator never = absurd never

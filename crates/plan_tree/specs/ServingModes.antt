@@ -7,7 +7,6 @@ use Rattle.query_core.specs.declared.expressions.Children.TheVariants.{Two}
 use Rattle.query_core.specs.declared.expressions.PhysicalExpr.{PhysicalExpr}
 use Rattle.query_core.specs.declared.query.Query.{Query}
 use Rattle.query_core.specs.declared.words.KeyParts.{KeyParts}
-use Rattle.request_props.specs.Ends.{CrossesBy}
 use Rattle.request_props.specs.Fitting.{DistFits, HashFits, OrderFits}
 use Rattle.request_props.specs.JoinSets.{Merges}
 use Rattle.request_props.specs.NumberSets.{NoneBetween}

@@ -79,6 +79,7 @@ pub fn alternative_by(
 }
 
 /// The word of an expression that a group can hold.
+#[inline(always)]
 pub fn word_of_candidate(_query: &Query, expr: PhysicalExpr) -> Expr
     requires { IsCandidate _query.now (expr_of expr) }
     ensures { HasWord result.0 (expr_of expr) }
@@ -89,6 +90,7 @@ pub fn word_of_candidate(_query: &Query, expr: PhysicalExpr) -> Expr
 }
 
 /// The expression of this word in a mode that is there for the request, by its line.
+#[inline(always)]
 pub fn alternative_at(
     query: &Query,
     expr: PhysicalExpr,
@@ -177,6 +179,7 @@ pub fn modes_are_one()
 {}
 
 // What the line asks of the children.
+#[inline(always)]
 fn alt_over(query: &Query, node: Node, line: &Line, children: Children, request: Request) -> Alt
     requires known { (g : AnyKeyParts) → IsChild children g → IsGroup query.now g }
     requires serves { LineServes query.now line.now children request }
@@ -192,6 +195,7 @@ fn alt_over(query: &Query, node: Node, line: &Line, children: Children, request:
 }
 
 // The key of the group with what is asked of it.
+#[inline(always)]
 fn ask(query: &Query, group: Option<KeyParts>, request: Option<Request>) -> Option<(Key, Request)>
     requires { IfSome group (IsGroup query.now) }
     ensures { IsAsk query.now result group request }

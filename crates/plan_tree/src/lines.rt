@@ -20,6 +20,7 @@ use query_core::{Access, KeyParts, PhysicalExpr, Query, table_in};
 use request_props::{Dist, GivenDist, GivenOrder, Props, Request, Side};
 
 /// The line of an expression in the mode of a number, if it has the mode.
+#[inline(always)]
 pub fn line_of(query: &Query, props: &Props, expr: PhysicalExpr, mode: u32) -> Option<Line>
     requires { IsProps query.now props.now }
     ensures { result ≡ the_line_of query.now expr mode }
@@ -34,6 +35,7 @@ pub fn line_of(query: &Query, props: &Props, expr: PhysicalExpr, mode: u32) -> O
 }
 
 // The line of a group's way of working in a mode, if it has the mode.
+#[inline(always)]
 fn line_by(query: &Query, props: &Props, group: KeyParts, way: Way, mode: Mode) -> Option<Line>
     requires { IsProps query.now props.now }
     ensures { result ≡ the_way_line query.now group way mode }
@@ -67,6 +69,7 @@ fn kept_line(kept: Kept) -> Line
 }
 
 // The line of a join over these children.
+#[inline(always)]
 fn join_line(
     query: &Query,
     props: &Props,
@@ -97,6 +100,7 @@ pub fn grouped_order(query: &Query, props: &Props, by: GroupBy) -> u32
 }
 
 // A line where the number is 0.
+#[inline(always)]
 fn only_line(line: Line, number: u32) -> Option<Line>
     ensures { result ≡ the_only_line line number }
 {
@@ -104,6 +108,7 @@ fn only_line(line: Line, number: u32) -> Option<Line>
 }
 
 // One line, in one mode.
+#[inline(always)]
 fn single_line(line: Line, mode: Mode) -> Option<Line>
     ensures { result ≡ the_single_line line mode }
 {
@@ -230,6 +235,7 @@ fn hash_line(
 }
 
 // A hash join of rows that are hashed alike on the two sides of an equality.
+#[inline(always)]
 fn hash_colocated(query: &Query, left: Side, right: Side) -> Line
     ensures { (a b : ℕ) → left ≡ side_of query.now a → right ≡ side_of query.now b →
         result ≡ the_hash_colocated query.now (a, b) }
@@ -270,6 +276,7 @@ fn merge_line(
 }
 
 // A merge join of rows in the order of the two sides of an equality.
+#[inline(always)]
 fn merge_with(query: &Query, dist: LeftDist, asked: Dist, left: Side, right: Side) -> Line
     ensures { (a b : ℕ) → left ≡ side_of query.now a → right ≡ side_of query.now b →
         result ≡ the_merge_with query.now dist asked (a, b) }
@@ -282,6 +289,7 @@ fn merge_with(query: &Query, dist: LeftDist, asked: Dist, left: Side, right: Sid
 }
 
 // And that are hashed alike on them.
+#[inline(always)]
 fn merge_colocated(query: &Query, left: Side, right: Side) -> Line
     ensures { (a b : ℕ) → left ≡ side_of query.now a → right ≡ side_of query.now b →
         result ≡ the_merge_colocated query.now (a, b) }
@@ -316,6 +324,7 @@ fn loop_line(mode: Mode) -> Option<Line>
 }
 
 // All rows on one segment, over a left child that is so.
+#[inline(always)]
 fn left_on_one() -> LeftDist
     ensures { result ≡ on_one }
 {
@@ -323,6 +332,7 @@ fn left_on_one() -> LeftDist
 }
 
 // Rows by the hash of the list, over a left child that is so.
+#[inline(always)]
 fn left_on_hashed(list: u32) -> LeftDist
     ensures { result ≡ on_hashed list }
 {
@@ -330,12 +340,14 @@ fn left_on_hashed(list: u32) -> LeftDist
 }
 
 // An order that is given, over a left child in the same order.
+#[inline(always)]
 fn left_in_order(order: u32) -> LeftOrder
     ensures { result ≡ in_order order }
 {
     LeftOrder::Fixed(GivenOrder::Listed(order), order)
 }
 
+#[inline(always)]
 fn unordered(dist: Dist) -> Request
     ensures { result ≡ record { dist = dist; order = 0 } }
 {

@@ -42,6 +42,7 @@ impl Node {
     }
 
     /// The node of the physical expression of this word in a mode.
+    #[inline(always)]
     pub fn native(word: Expr, mode: u32) -> Node
         requires word { FitsExpr word.0 }
         requires few { mode < node_modes }

@@ -47,6 +47,7 @@ pub fn may_give(query: &Query, props: &Props, line: Line, wanted: Dist) -> bool
 }
 
 /// What the line asks of the left child.
+#[inline(always)]
 pub fn asked_left(line: &Line, wanted: Request) -> Option<Request>
     ensures { result ≡ slice_get (asked_of line.now wanted) 0 }
 {
@@ -58,6 +59,7 @@ pub fn asked_left(line: &Line, wanted: Request) -> Option<Request>
 }
 
 /// What the line asks of the right child.
+#[inline(always)]
 pub fn asked_right(line: &Line, wanted: Request) -> Option<Request>
     ensures { result ≡ slice_get (asked_of line.now wanted) 1 }
 {
@@ -68,6 +70,7 @@ pub fn asked_right(line: &Line, wanted: Request) -> Option<Request>
     }
 }
 
+#[inline(always)]
 pub fn left_child(children: Children) -> Option<KeyParts>
     ensures { result ≡ slice_get (groups_of children) 0 }
 {
@@ -78,6 +81,7 @@ pub fn left_child(children: Children) -> Option<KeyParts>
     }
 }
 
+#[inline(always)]
 pub fn right_child(children: Children) -> Option<KeyParts>
     ensures { result ≡ slice_get (groups_of children) 1 }
 {
@@ -88,6 +92,7 @@ pub fn right_child(children: Children) -> Option<KeyParts>
     }
 }
 
+#[inline(always)]
 fn left_asked(dist: LeftDist, order: LeftOrder, wanted: Request) -> Request
     ensures { result ≡ the_left_asked dist order wanted }
 {
@@ -97,6 +102,7 @@ fn left_asked(dist: LeftDist, order: LeftOrder, wanted: Request) -> Request
     }
 }
 
+#[inline(always)]
 fn dist_asked(dist: LeftDist, wanted: Dist) -> Dist
     ensures { result ≡ the_dist_asked dist wanted }
 {
@@ -108,6 +114,7 @@ fn dist_asked(dist: LeftDist, wanted: Dist) -> Dist
     }
 }
 
+#[inline(always)]
 fn order_asked(order: LeftOrder, wanted: u32) -> u32
     ensures { result ≡ the_order_asked order wanted }
 {

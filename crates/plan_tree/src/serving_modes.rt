@@ -35,6 +35,7 @@ pub fn may_serve(query: &Query, props: &Props, expr: &PhysicalExpr, wanted: Requ
 }
 
 /// The same, by what the expression can give as a join, where that was found before.
+#[inline(always)]
 pub fn may_serve_by(
     query: &Query,
     props: &Props,
@@ -91,6 +92,7 @@ pub fn modes_to_try(query: &Query, props: &Props, expr: PhysicalExpr, wanted: Re
 }
 
 /// The first of these modes from this number on, with its line. In each of them the expression serves the request.
+#[inline(always)]
 pub fn next_alternative(
     query: &Query,
     props: &Props,

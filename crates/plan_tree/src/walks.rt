@@ -25,6 +25,7 @@ pub fn next_line(query: &Query, props: &Props, expr: PhysicalExpr, from: u32) ->
 }
 
 /// The first of these modes from this number on, with its line.
+#[inline(always)]
 pub fn next_of(
     query: &Query,
     props: &Props,
@@ -106,6 +107,7 @@ fn all_lists(query: &Query, props: &Props) -> NumberSet
     NumberSet::below(props.hashed.len() as u32)
 }
 
+#[inline(always)]
 pub fn tried(plain: NumberSet, copied: NumberSet, hashed: NumberSet) -> ModeSets
     ensures { result ≡ record { plain = plain; copied = copied; hashed = hashed } }
 {

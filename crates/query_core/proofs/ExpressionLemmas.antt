@@ -1,9 +1,10 @@
 -- Laws of group expressions and their words.
-use Rattle.std.proofs.Common.{◌≡◌, ℕ, ◌*◌, ◌/◌, ◌%◌, ◌-◌, ◌≤◌, ◌<◌, ◌^◌, refl, ap, ◌∙◌, ◌↔◌, arith, inl, inr}
+use Rattle.std.proofs.Common.{◌≡◌, ℕ, ◌+◌, ◌*◌, ◌/◌, ◌%◌, ◌-◌, ◌≤◌, ◌<◌, ◌^◌, refl, ap, ◌∙◌, ◌↔◌, arith, inl, inr}
 use Rattle.std.proofs.lemmas.Bool.{cases_eq}
 use Rattle.query_core.specs.Keys.{key_number, IsGroupInRange}
 use Rattle.query_core.specs.Expressions.{expr_of, fields, key_field, fields_of}
-use Rattle.query_core.specs.Expressions.{left_number, right_number, packed, word_of, AreInRange, HasWord, IsPacked}
+use Rattle.query_core.specs.Expressions.{children_of, left_number, right_number, packed, word_of}
+use Rattle.query_core.specs.Expressions.{AreFirstOf, AreInRange, HasWord, IsPacked}
 use Rattle.query_core.specs.Expressions.{IsJoinNumber}
 use Rattle.query_core.specs.Finding.{operator_number, index_of}
 use Rattle.query_core.specs.declared.expressions.TheConstants.{OPERATORS}
@@ -156,6 +157,29 @@ key_read e word has = let small = fields_small e has.packed in let is = has.numb
 -- and its operator's number
 pub number_read : (e : ExprParts) (word : ℕ) → HasWord word e → (fields_of e.operator).number ≡ word / 2 ^ 31 % 2 ^ 5
 number_read e word has = let small = fields_small e has.packed in let is = has.number in omega arith
+
+-- and the number of the index that it reads
+pub index_read : (e : ExprParts) (word : ℕ) → HasWord word e → (fields_of e.operator).index ≡ word / 2 ^ 26 % 2 ^ 5
+index_read e word has = let small = fields_small e has.packed in let is = has.number in omega arith
+
+-- and the numbers of the groups that it stands on
+pub left_read : (e : ExprParts) (word : ℕ) → HasWord word e
+    → left_number (children_of e.operator) ≡ word / 2 ^ 13 % 2 ^ 13
+left_read e word has = let small = fields_small e has.packed in let is = has.number in omega arith
+
+pub right_read : (e : ExprParts) (word : ℕ) → HasWord word e
+    → right_number (children_of e.operator) ≡ word / 2 ^ 0 % 2 ^ 13
+right_read e word has = let small = fields_small e has.packed in let is = has.number in omega arith
+
+-- groups of these numbers are the children
+pub children_read : (c : Children) (left right : KeyParts) → AreInRange c
+    → ((g : KeyParts) → IsGroupInRange g → key_number g + 1 ≡ left_number c → g ≡ left)
+    → ((g : KeyParts) → IsGroupInRange g → key_number g + 1 ≡ right_number c → g ≡ right)
+    → AreFirstOf c left right
+children_read Zero left right in_c is_left is_right = tt
+children_read (One child) left right in_c is_left is_right = is_left child in_c refl
+children_read (Two first second) left right in_c is_left is_right =
+    (is_left first in_c.0 refl, is_right second in_c.1 refl)
 
 -- and takes at most 48 bits
 pub word_small : (e : ExprParts) → IsPacked e → FitsExpr (word_of e)

@@ -59,6 +59,12 @@ fields_of (operators.Physical o) = physical_fields o
 abbrev pub children_of : Operator → Children
 children_of o = (fields_of o).children
 
+-- the children are the first of these groups
+abbrev pub AreFirstOf : Children → KeyParts → KeyParts → Type 0
+AreFirstOf Zero left right = ⊤
+AreFirstOf (One child) left right = child ≡ left
+AreFirstOf (Two first second) left right = (first ≡ left) × (second ≡ right)
+
 -- operators that stand on two groups have these numbers
 abbrev pub IsJoinNumber : ℕ → Type 0
 IsJoinNumber number = (FIRST_JOIN ≤ number) × (number < AFTER_JOINS)

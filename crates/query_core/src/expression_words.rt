@@ -17,6 +17,7 @@ use crate::words::{Expr, Key, KeyParts};
 
 impl Expr {
     /// The word of a group expression.
+    #[inline(always)]
     pub fn make(parts: ExprParts) -> Expr
         requires { IsPacked parts }
         ensures number { result.0 ≡ word_of parts }
@@ -43,15 +44,17 @@ impl Expr {
     }
 
     /// The group expression that the word is known to have.
+    #[inline(always)]
     pub fn known_parts(self) -> ExprParts
         requires { IsWord self.0 }
         ensures has { HasWord self.0 result }
         ensures only { (e : ExprParts) → HasWord self.0 e → e ≡ result }
     {
-        match self.parts() {
-            Some(parts) => parts,
-            None => unreachable!(),
-        }
+        let group = self.key_field().known_parts();
+        let left = known_child(field(self.0, 13, 13));
+        let right = known_child(field(self.0, 0, 13));
+        let operator = Operator::over(self.number_field(), field(self.0, 26, 5), left, right);
+        ExprParts { group, operator }
     }
 
     /// The key of its group.
@@ -63,6 +66,7 @@ impl Expr {
     }
 
     /// What the word has in the place of its group's key.
+    #[inline(always)]
     pub fn key_field(self) -> Key
         ensures { result.0 ≡ key_field self.0 }
     {
@@ -77,6 +81,7 @@ impl Expr {
         is_logical_number(self.number_field())
     }
 
+    #[inline(always)]
     fn number_field(self) -> u32
         ensures { result ≡ self.0 / 2 ^ 31 % 2 ^ 5 }
     {
@@ -120,6 +125,7 @@ pub fn expressions_are_one()
 {}
 
 impl Children {
+    #[inline(always)]
     fn numbers(self) -> (u32, u32)
         requires { AreInRange self }
         ensures left { result.0 ≡ left_number self }
@@ -162,6 +168,7 @@ impl Children {
     }
 }
 
+#[inline(always)]
 fn child_number(group: KeyParts) -> u32
     requires { IsGroupInRange group }
     ensures number { result ≡ key_number group + 1 }
@@ -181,7 +188,16 @@ fn child_of(number: u32) -> Option<KeyParts>
     Key(number - 1).parts()
 }
 
+// The child of this number, where a group has it.
+#[inline(always)]
+fn known_child(number: u32) -> KeyParts
+    ensures { (g : KeyParts) → IsGroupInRange g → key_number g + 1 ≡ number → g ≡ result }
+{
+    Key(number.saturating_sub(1)).known_parts()
+}
+
 // The field of this width from this place on.
+#[inline(always)]
 fn field(word: u64, place: u32, width: u32) -> u32
     requires place { place < 64 }
     requires width { width < 32 }

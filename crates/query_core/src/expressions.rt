@@ -3,7 +3,7 @@
 
 ghost use Rattle.std.specs.Prelude.{◌≡◌, MatchOption};
 ghost use Rattle.query_core.specs.Expressions.{children_of, expr_of, fields_of, logical_fields, physical_children};
-ghost use Rattle.query_core.specs.Expressions.{physical_fields, is_logical as the_is_logical, IsJoinNumber};
+ghost use Rattle.query_core.specs.Expressions.{physical_fields, is_logical as the_is_logical, AreFirstOf, IsJoinNumber};
 ghost use Rattle.query_core.specs.Expressions.{implements as the_implements, access as the_access};
 ghost use Rattle.query_core.specs.Expressions.{unfiltered as the_unfiltered};
 
@@ -110,6 +110,7 @@ pub struct PhysicalExpr {
 }
 
 impl PhysicalExpr {
+    #[inline(always)]
     pub fn new(group: KeyParts, operator: Physical) -> PhysicalExpr
         ensures { result ≡ record { group = group; operator = operator } }
     {
@@ -117,6 +118,7 @@ impl PhysicalExpr {
     }
 
     /// The same as an expression of either kind.
+    #[inline(always)]
     pub fn parts(self) -> ExprParts
         ensures { result ≡ expr_of self }
     {
@@ -124,6 +126,7 @@ impl PhysicalExpr {
     }
 
     /// The groups that it stands on.
+    #[inline(always)]
     pub fn children(self) -> Children
         ensures { result ≡ physical_children self.operator }
     {
@@ -133,6 +136,7 @@ impl PhysicalExpr {
 
 impl ExprParts {
     /// An expression that says what is wanted of the group's rows.
+    #[inline(always)]
     pub fn logical(group: KeyParts, operator: Logical) -> ExprParts
         ensures { result ≡ record { group = group; operator = Operator.Logical operator } }
     {
@@ -143,6 +147,7 @@ impl ExprParts {
     }
 
     /// An expression that says how the group's rows are made.
+    #[inline(always)]
     pub fn physical(group: KeyParts, operator: Physical) -> ExprParts
         ensures { result ≡ record { group = group; operator = Operator.Physical operator } }
     {
@@ -153,6 +158,7 @@ impl ExprParts {
     }
 
     /// The physical expression that it is, if it is one.
+    #[inline(always)]
     pub fn as_physical(self) -> Option<PhysicalExpr>
         ensures { MatchOption result
             ((e : PhysicalExpr) → self ≡ expr_of e → ⊥)
@@ -165,6 +171,7 @@ impl ExprParts {
     }
 
     /// The groups that it stands on.
+    #[inline(always)]
     pub fn children(self) -> Children
         ensures { result ≡ children_of self.operator }
     {
@@ -174,6 +181,7 @@ impl ExprParts {
 
 impl Operator {
     /// Whether it says what is wanted, and not how it is made.
+    #[inline(always)]
     pub fn is_logical(self) -> bool
         ensures { result ≡ the_is_logical self }
     {
@@ -184,6 +192,7 @@ impl Operator {
     }
 
     /// The groups that it stands on.
+    #[inline(always)]
     pub fn children(self) -> Children
         ensures { result ≡ children_of self }
     {
@@ -202,6 +211,7 @@ impl Operator {
         }
     }
 
+    #[inline(always)]
     pub(crate) fn fields(self) -> Fields
         ensures { result ≡ fields_of self }
     {
@@ -225,6 +235,32 @@ impl Operator {
             None => None,
         }
     }
+
+    /// The operator of this number, which reads the index of this number and stands on the first of these groups. It is
+    /// for numbers that are known to be those of one.
+    pub(crate) fn over(number: u32, index: u32, left: KeyParts, right: KeyParts) -> Operator
+        ensures { (o : Operator) → (fields_of o).number ≡ number → (fields_of o).index ≡ index →
+            AreFirstOf (children_of o) left right → o ≡ result }
+    {
+        match number {
+            1 => Operator::Logical(Logical::Get),
+            2 => Operator::Physical(Physical::Scan),
+            3 => Operator::Physical(Physical::IndexScan(index)),
+            4 => Operator::Logical(Logical::Select(left)),
+            5 => Operator::Physical(Physical::Filter(left)),
+            6 => Operator::Physical(Physical::IndexSeek(index)),
+            7 => Operator::Logical(Logical::NJoin),
+            8 => Operator::Logical(Logical::Join(left, right)),
+            9 => Operator::Physical(Physical::HashJoin(left, right)),
+            10 => Operator::Physical(Physical::MergeJoin(left, right)),
+            11 => Operator::Physical(Physical::LoopJoin(left, right)),
+            12 => Operator::Logical(Logical::Agg(left)),
+            13 => Operator::Physical(Physical::HashAgg(left)),
+            14 => Operator::Physical(Physical::StreamAgg(left)),
+            15 => Operator::Logical(Logical::Partial(left)),
+            _ => Operator::Physical(Physical::PartialAgg(left)),
+        }
+    }
 }
 
 /// Whether the operator of this number says what is wanted, and not how it is made.
@@ -235,6 +271,7 @@ pub(crate) fn is_logical_number(number: u32) -> bool
 }
 
 impl Logical {
+    #[inline(always)]
     fn fields(self) -> Fields
         ensures { result ≡ logical_fields self }
     {
@@ -302,6 +339,7 @@ impl Physical {
         }
     }
 
+    #[inline(always)]
     fn fields(self) -> Fields
         ensures { result ≡ physical_fields self }
     {
@@ -354,6 +392,7 @@ fn unfiltered(group: KeyParts) -> KeyParts
 }
 
 impl Fields {
+    #[inline(always)]
     pub(crate) fn new(number: u32, index: u32, children: Children) -> Fields
         ensures { result ≡ record { number = number; index = index; children = children } }
     {

@@ -29,6 +29,7 @@ const OPT_E: u64 = 6;
 impl Goal {
     /// The word of a goal: the kind from bit 60 on, the key or the expression from bit 12 on, and the number of the
     /// rule or the code of the request.
+    #[inline(always)]
     pub fn make(parts: GoalParts) -> Goal
         requires { FitsGoal parts }
         ensures { result.0 ≡ goal_number parts }
@@ -59,6 +60,7 @@ impl Goal {
     }
 
     /// The goal whose fields the word has, which is its own goal where it is the word of one.
+    #[inline(always)]
     pub fn fields(self) -> GoalParts
         ensures { result ≡ goal_fields self.0 }
     {
@@ -77,6 +79,7 @@ impl Goal {
     }
 
     /// Whether a word of a goal or of an expression is that of a goal.
+    #[inline(always)]
     pub fn is_word(word: u64) -> bool
         ensures { result ≡ has_goal_bit word }
     {
@@ -98,6 +101,7 @@ pub fn goals_are_one()
     ensures low { (word : ℕ) → FitsExpr word → word < goal_bit }
 {}
 
+#[inline(always)]
 fn packed(kind: u64, subject: u64, detail: u32) -> Goal
     requires kind { kind < 8 }
     requires subject { FitsExpr subject }

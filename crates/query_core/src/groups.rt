@@ -57,6 +57,7 @@ impl Query {
     }
 
     /// The group that the key names.
+    #[inline(always)]
     pub fn group(&self, key: Key) -> KeyParts
         requires { IsKey self.now key }
         ensures named { NamesGroup self.now key result }

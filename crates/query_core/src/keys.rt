@@ -18,6 +18,7 @@ pub const FIRST_SET_KEY: u32 = 1024;
 
 impl Key {
     /// The key of a group.
+    #[inline(always)]
     pub fn make(parts: KeyParts) -> Key
         requires { IsGroupInRange parts }
         ensures number { result.0 ≡ key_number parts }
@@ -29,6 +30,20 @@ impl Key {
             KeyParts::Join(set) => Key(FIRST_SET_KEY + set),
             KeyParts::Partial => Key(2048),
             KeyParts::Agg => Key(2049),
+        }
+    }
+
+    /// The group that a key names, where it is known to name one.
+    #[inline(always)]
+    pub fn known_parts(self) -> KeyParts
+        ensures { (g : KeyParts) → IsGroupInRange g → key_number g ≡ self.0 → g ≡ result }
+    {
+        match self.0 {
+            0..10 => KeyParts::Get(self.0),
+            10..26 => KeyParts::Filter(self.0.saturating_sub(16)),
+            26..2048 => KeyParts::Join(self.0.saturating_sub(FIRST_SET_KEY)),
+            2048 => KeyParts::Partial,
+            _ => KeyParts::Agg,
         }
     }
 

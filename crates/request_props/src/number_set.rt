@@ -13,6 +13,7 @@ pub struct NumberSet {
 
 impl NumberSet {
     /// No number.
+    #[inline(always)]
     pub fn none() -> NumberSet
         ensures { (number : ℕ) → IsInSet result number → ⊥ }
     {
@@ -20,6 +21,7 @@ impl NumberSet {
     }
 
     /// The numbers below this one; all where it is 64 or more.
+    #[inline(always)]
     pub fn below(bound: u32) -> NumberSet
         ensures all { bound ≤ 64 → HasBelow result bound }
         ensures only { (number : ℕ) → IsInSet result number → number < bound }
@@ -34,6 +36,7 @@ impl NumberSet {
     }
 
     /// Whether there is none.
+    #[inline(always)]
     pub fn is_empty(self) -> bool
         ensures none { IsTrue result → (number : ℕ) → IsInSet self number → ⊥ }
         ensures some { result ≡ false → (number : ℕ) × IsInSet self number }
@@ -42,6 +45,7 @@ impl NumberSet {
     }
 
     /// Whether the number is one of these.
+    #[inline(always)]
     pub fn has(self, number: u32) -> bool
         ensures { IsTrue result ↔ IsInSet self number }
     {
@@ -49,6 +53,7 @@ impl NumberSet {
     }
 
     /// These numbers, and this one where it is to be one of them.
+    #[inline(always)]
     pub fn with(self, number: u32, is_one: bool) -> NumberSet
         requires { number < 64 }
         ensures { (other : ℕ) → IsInSet result other ↔
@@ -64,6 +69,7 @@ impl NumberSet {
     }
 
     /// The numbers that are in both.
+    #[inline(always)]
     pub fn and(self, other: NumberSet) -> NumberSet
         ensures { (number : ℕ) → IsInSet result number ↔
             (IsInSet self number × IsInSet other number) }
@@ -74,6 +80,7 @@ impl NumberSet {
     }
 
     /// The numbers that are in one or in both.
+    #[inline(always)]
     pub fn or(self, other: NumberSet) -> NumberSet
         ensures { (number : ℕ) → IsInSet result number ↔
             (IsInSet self number ⊎ IsInSet other number) }
@@ -84,6 +91,7 @@ impl NumberSet {
     }
 
     /// The numbers that are in this one and not in the other.
+    #[inline(always)]
     pub fn without(self, other: NumberSet) -> NumberSet
         ensures { (number : ℕ) → IsInSet result number ↔
             (IsInSet self number × (IsInSet other number → ⊥)) }
@@ -94,6 +102,7 @@ impl NumberSet {
     }
 
     /// The first of the numbers from this one on, or one that is none of them and 64 at least.
+    #[inline(always)]
     pub fn next(self, from: u32) -> u32
         ensures from { from ≤ result }
         ensures near { result ≤ max from 64 }

@@ -26,6 +26,7 @@ pub struct Request {
 }
 
 /// The request's number.
+#[inline(always)]
 pub fn code(request: Request) -> u32
     requires { IsRequestInRange request }
     ensures { result ≡ code_of request }

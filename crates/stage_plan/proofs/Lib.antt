@@ -1,3 +1,4 @@
+pub mod OtherJoins
 pub mod OtherOptions
 pub mod OtherProofs
 pub mod Lists

@@ -1,6 +1,5 @@
 -- What was collected of a query doesn't depend on which rules are off in it.
-use Rattle.std.proofs.Common.{◌≡◌, ◌↔◌, ℕ, List, [], Option, None, Some, slice_index_or}
-use Rattle.std.specs.Prelude.{IfSome}
+use Rattle.std.proofs.Common.{◌≡◌, ◌↔◌, ℕ, List, slice_index_or}
 use Rattle.query_core.specs.Results.{AreOptions}
 use Rattle.query_core.specs.Keys.{IsKey, NamesGroup}
 use Rattle.query_core.specs.Expressions.{FallsInto, HasLogical, HasPhysical}
@@ -22,23 +21,16 @@ use Rattle.query_core.specs.declared.expressions.Operator.TheVariants as operato
 use Rattle.request_props.specs.Groups.{AreGroupRows, AreKeys}
 use Rattle.request_props.specs.Candidates.{AreCandidates, AreCandidatesOf, ArePhysical, ArePhysicalOf, IsPhysicalOf}
 use Rattle.request_props.specs.Ends.{AreEnds, AreEndsBelow, BeginsIn, EndsIn, IsEqualityAt}
-use Rattle.request_props.specs.Fitting.{HashFits, OrderFits}
-use Rattle.request_props.specs.JoinSets.{AreJoinTables, AreSetsFor, AreSetsOf, Merges}
 use Rattle.request_props.specs.Lying.{AreTablesOf}
-use Rattle.request_props.specs.Numbered.{AreEqualityTables, AreGroupTables, ArePlacementTables, IsProps, IsRoot, order_of}
-use Rattle.request_props.specs.Satisfied.{BeginsWith}
+use Rattle.request_props.specs.Numbered.{AreEqualityTables, AreGroupTables, ArePlacementTables, IsProps, IsRoot}
 use Rattle.request_props.specs.declared.tables.ends.EqualityEnds.{EqualityEnds}
-use Rattle.request_props.specs.declared.tables.join_sets.JoinSets.{JoinSets}
 use Rattle.request_props.specs.declared.tables.physical.PhysicalCandidate.{PhysicalCandidate}
 use Rattle.request_props.specs.declared.props.Props.{Props}
 use Rattle.request_props.specs.declared.request.Request.{Request}
 use Rattle.request_props.specs.declared.tables.EqualityTables.{EqualityTables}
 use Rattle.request_props.specs.declared.tables.GroupTables.{GroupTables}
 use Rattle.request_props.specs.declared.tables.PlacementTables.{PlacementTables}
-
--- the query with other options
-abbrev pub with : (q : Query) (o : Options) → AreOptions o → Query
-with q o v = record q { options = o; options_valid = v }
+use Rattle.stage_plan.proofs.OtherJoins.{with, join_tables_with}
 
 -- ---- groups
 
@@ -217,56 +209,6 @@ placement_tables_with q o v tables h = record {
   of_orders = lying_with q o v _ _ h.of_orders;
   by_groups = h.by_groups;
 }
-
--- ---- what joins can give
-
-hash_fits_with : (q : Query) (o : Options) (v : AreOptions o) (group : KeyParts) (list : ℕ) → HashFits q group list
-    → HashFits (with q o v) group list
-hash_fits_with q o v group list h = record { numbered = h.numbered; lies_in = h.lies_in }
-
-order_fits_with : (q : Query) (o : Options) (v : AreOptions o) (group : KeyParts) (order : ℕ) → OrderFits q group order
-    → OrderFits (with q o v) group order
-order_fits_with q o v group order h = record { numbered = h.numbered; lies_in = h.lies_in }
-
-join_sets_with : (q : Query) (o : Options) (v : AreOptions o) (left : KeyParts) (IsGiven : ℕ → Type 0)
-    (IsGivenWith : ℕ → Type 0) → ((order : ℕ) → IsGiven order ↔ IsGivenWith order) → (sets : JoinSets)
-    → AreSetsFor q left IsGiven sets → AreSetsFor (with q o v) left IsGivenWith sets
-join_sets_with q o v left IsGiven IsGivenWith same sets h = record {
-  lists = λ list. (
-    λ has. hash_fits_with q o v left list ((h.lists list).0 has),
-    λ fits. (h.lists list).1 (hash_fits_with (with q o v) q.options q.options_valid left list fits),
-  );
-  orders = λ order numbered. (
-    λ has. (same order).0 ((h.orders order numbered).0 has),
-    λ is. (h.orders order numbered).1 ((same order).1 is),
-  );
-}
-
-sets_of_with : (q : Query) (o : Options) (v : AreOptions o) (operator : Physical) (sets : JoinSets)
-    → AreSetsOf q operator sets → AreSetsOf (with q o v) operator sets
-sets_of_with q o v (physical.HashJoin left right) sets h =
-    join_sets_with q o v left (λ order. BeginsWith [] (order_of q order)) (λ order. BeginsWith [] (order_of q order))
-    (λ order. (λ none. none, λ none. none)) sets h
-sets_of_with q o v (physical.MergeJoin left right) sets h =
-    join_sets_with q o v left (Merges q left right) (Merges (with q o v) left right)
-    (λ order. (λ merges. merges, λ merges. merges)) sets h
-sets_of_with q o v (physical.LoopJoin left right) sets h =
-    join_sets_with q o v left (OrderFits q left) (OrderFits (with q o v) left) (λ order. (
-      order_fits_with q o v left order,
-      order_fits_with (with q o v) q.options q.options_valid left order,
-    )) sets h
-sets_of_with q o v operator sets never = absurd never
-
-known_sets_with : (q : Query) (o : Options) (v : AreOptions o) (operator : Physical) (sets : Option JoinSets)
-    → IfSome sets (AreSetsOf q operator) → IfSome sets (AreSetsOf (with q o v) operator)
-known_sets_with q o v operator None none = tt
-known_sets_with q o v operator (Some sets) are = sets_of_with q o v operator sets are
-
-join_tables_with : (q : Query) (o : Options) (v : AreOptions o) (candidates : List (List PhysicalCandidate))
-    (sets : List (List (Option JoinSets))) → AreJoinTables q candidates sets
-    → AreJoinTables (with q o v) candidates sets
-join_tables_with q o v candidates sets h number k candidate within =
-    known_sets_with q o v _ _ (h number k candidate within)
 
 -- ---- all of it
 

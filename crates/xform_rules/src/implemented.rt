@@ -60,6 +60,7 @@ fn makers_of(from: Logical) -> &'static [Rule]
 }
 
 /// The n-th operator, from 0, that the rule makes of the logical one, where its condition allows so many.
+#[inline(always)]
 pub fn made(
     query: &Query,
     rule: Rule,
@@ -77,6 +78,7 @@ pub fn made(
 }
 
 /// The operator that the rule makes of the logical one of the group, by the index of this number if it reads one.
+#[inline(always)]
 fn made_by(rule: Rule, group: KeyParts, from: Logical, index: u32) -> Option<Physical>
     ensures { Finds (IsMadeBy rule group from index) result }
 {
@@ -93,6 +95,7 @@ fn made_by(rule: Rule, group: KeyParts, from: Logical, index: u32) -> Option<Phy
 }
 
 /// The operator that the rule makes of a logical one, over its children or by the index of this number.
+#[inline(always)]
 fn operator_of(rule: Rule, from: Logical, index: u32) -> Option<Physical>
     ensures rule { IfSome result (λ to. rule_of to ≡ rule) }
     ensures index { IfSome result (λ to. index_of to ≡ index) }
@@ -116,6 +119,7 @@ fn operator_of(rule: Rule, from: Logical, index: u32) -> Option<Physical>
     }
 }
 
+#[inline(always)]
 fn is_same(operator: Logical, other: Logical) -> bool
     ensures { IsTrue result ↔ (operator ≡ other) }
 {
@@ -142,6 +146,7 @@ fn allowed(
 }
 
 /// No index, of the first operator alone, where this holds.
+#[inline(always)]
 fn first_if(n: u32, holds: bool) -> Option<u32>
     ensures { Finds (λ index. IsFirst n index × IsTrue holds) result }
 {

@@ -96,6 +96,7 @@ pub fn result_at(
     }
 }
 
+#[inline(always)]
 fn with_or_without(
     query: &Query,
     rule: Rule,
@@ -114,6 +115,7 @@ fn with_or_without(
     }
 }
 
+#[inline(always)]
 fn with_member(
     query: &Query,
     rule: Rule,
@@ -131,6 +133,7 @@ fn with_member(
     }
 }
 
+#[inline(always)]
 fn without_member(
     query: &Query,
     rule: Rule,
@@ -159,6 +162,7 @@ fn said(query: &Query, way: Exploration, group: KeyParts, from: Logical) -> Opti
 }
 
 /// The first result of a rule that explores.
+#[inline(always)]
 fn explored(n: u32, found: Option<Logical>) -> Option<Operator>
     ensures first { n ≡ 0 → result ≡ option_map operators.Logical found }
     ensures others { 0 < n → result ≡ None }
@@ -170,6 +174,7 @@ fn explored(n: u32, found: Option<Logical>) -> Option<Operator>
     }
 }
 
+#[inline(always)]
 fn physical(found: Option<Physical>) -> Option<Operator>
     ensures { result ≡ option_map operators.Physical found }
 {

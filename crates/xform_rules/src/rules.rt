@@ -101,6 +101,7 @@ impl Rule {
         ]
     }
 
+    #[inline(always)]
     fn facts(self) -> Facts
         ensures number { result.number ≡ rule_number self }
         ensures name { result.name.now ≡ rule_name self }
@@ -125,6 +126,7 @@ impl Rule {
     }
 
     /// The number of the rule: 1 to 14.
+    #[inline(always)]
     pub fn number(self) -> u32
         ensures value { result ≡ rule_number self }
         ensures some { 1 ≤ result }
@@ -141,6 +143,7 @@ impl Rule {
     }
 
     /// What the rule does.
+    #[inline(always)]
     pub fn work(self) -> Work
         ensures { result ≡ work_of self }
     {
@@ -148,6 +151,7 @@ impl Rule {
     }
 
     /// How many results it can have at an expression: one for each index of a table, or one.
+    #[inline(always)]
     pub fn limit(self) -> u32
         ensures { result ≡ rule_limit self }
     {
@@ -155,6 +159,7 @@ impl Rule {
     }
 
     /// Whether it gives other logical expressions. The other rules give physical ones.
+    #[inline(always)]
     pub fn explores(self) -> bool
         ensures { result ≡ the_explores self }
     {
@@ -162,6 +167,7 @@ impl Rule {
     }
 
     /// Whether it binds a member of the left child's group.
+    #[inline(always)]
     pub fn binds(self) -> bool
         ensures { result ≡ the_binds self }
     {
@@ -177,6 +183,7 @@ impl Rule {
 }
 
 /// What is known of a rule, in one row.
+#[inline(always)]
 fn row(number: u32, name: &'static str, work: Work) -> Facts
     ensures number { result.number ≡ number }
     ensures name { result.name.now ≡ name.now }
@@ -186,6 +193,7 @@ fn row(number: u32, name: &'static str, work: Work) -> Facts
 }
 
 impl Work {
+    #[inline(always)]
     fn limit(self) -> u32
         ensures { result ≡ most_results self }
     {
@@ -195,6 +203,7 @@ impl Work {
         }
     }
 
+    #[inline(always)]
     fn explores(self) -> bool
         ensures { result ≡ is_exploring self }
     {
@@ -204,6 +213,7 @@ impl Work {
         }
     }
 
+    #[inline(always)]
     fn binds(self) -> bool
         ensures { result ≡ is_binding self }
     {
@@ -224,6 +234,7 @@ impl Work {
 }
 
 impl Exploration {
+    #[inline(always)]
     fn binds(self) -> bool
         ensures { result ≡ binds_member self }
     {
@@ -249,6 +260,7 @@ impl Exploration {
 
 impl Condition {
     // How many operators it allows at most.
+    #[inline(always)]
     fn limit(self) -> u32
         ensures { result ≡ most_allowed self }
     {

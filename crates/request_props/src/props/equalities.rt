@@ -59,6 +59,7 @@ impl Props {
     }
 
     /// The predicates that equate columns across the groups.
+    #[inline(always)]
     pub fn crossings(&self, query: &Query, left: KeyParts, right: KeyParts) -> NumberSet
         requires { IsProps query.now self.now }
         ensures { (pred : ℕ) → IsInSet result pred ↔
@@ -80,7 +81,7 @@ impl Props {
     }
 
     /// The orders that some predicate gives that equates columns across the groups, by that of the left group.
-    pub fn orders_merged(&self, query: &Query, left: KeyParts, right: KeyParts) -> NumberSet
+    pub(crate) fn orders_merged(&self, query: &Query, left: KeyParts, right: KeyParts) -> NumberSet
         requires { IsProps query.now self.now }
         ensures { AreThoseBelow (Merges query.now left right) (length (orders_of query.now) + 1) result }
     {
@@ -120,6 +121,7 @@ impl Props {
     }
 
     // The equalities of which the group has a column.
+    #[inline(always)]
     fn ends(&self, query: &Query, group: KeyParts) -> EqualityEnds
         requires { IsProps query.now self.now }
         ensures { AreEndsOf query.now (HasColumn query.now group) result }
@@ -131,6 +133,7 @@ impl Props {
     }
 
     // The same, where they were found before.
+    #[inline(always)]
     fn known_ends(&self, query: &Query, group: KeyParts) -> Option<EqualityEnds>
         requires { IsProps query.now self.now }
         ensures { IfSome result (AreEndsOf query.now (HasColumn query.now group)) }
@@ -145,6 +148,7 @@ impl Props {
     }
 
     // The equalities of which a column gives the order. Without a number it is the empty one.
+    #[inline(always)]
     fn ends_giving(&self, query: &Query, order: u32) -> EqualityEnds
         requires { IsProps query.now self.now }
         ensures { AreEndsOf query.now (IsGivenBy (order_of query.now order)) result }
@@ -156,6 +160,7 @@ impl Props {
     }
 
     // The equalities of which a column's list has the number.
+    #[inline(always)]
     fn ends_listed(&self, query: &Query, list: u32) -> EqualityEnds
         requires { IsProps query.now self.now }
         ensures { AreEndsOf query.now (λ column. column_list query.now column ≡ list) result }
@@ -175,6 +180,7 @@ impl Props {
     }
 
     // Both sides of the predicate, where it is an equality of two items.
+    #[inline(always)]
     fn equality(&self, query: &Query, pred: u32) -> Option<Equality>
         requires { IsProps query.now self.now }
         ensures { result ≡
@@ -188,6 +194,7 @@ impl Props {
 }
 
 // What stands at this place of the list, if it has so many.
+#[inline(always)]
 fn ends_at(list: &[EqualityEnds], place: u32) -> Option<EqualityEnds>
     ensures found { IfSome result (λ ends. (d : AnyEqualityEnds) → (place < length list.now) ×
         (slice_index_or list.now place d ≡ ends)) }

@@ -18,7 +18,7 @@ use std::alloc::{AllocError, Global};
 
 impl Props {
     /// Of the candidates of each group, what those can give that are joins.
-    pub fn join_tables(
+    pub(crate) fn join_tables(
         &self,
         alloc: Global,
         query: &Query,

@@ -55,6 +55,7 @@ impl Props {
 
     /// The physical expressions that the group can hold, ascending by their words, and of each at its place what it can
     /// give, if it is a join.
+    #[inline(always)]
     pub fn physical_of(
         &self,
         query: &Query,
@@ -74,6 +75,7 @@ impl Props {
     }
 
     // What the candidates can give of the group whose key has this number.
+    #[inline(always)]
     fn sets_at(&self, query: &Query, number: usize) -> &[Option<JoinSets>]
         requires { IsProps query.now self.now }
         ensures { AreSetsAt query.now (slice_index_or self.now.groups.value.physical number [])
@@ -86,6 +88,7 @@ impl Props {
     }
 
     /// The estimated rows of the group that the key names, where the query has it.
+    #[inline(always)]
     pub fn rows(&self, query: &Query, key: Key) -> u64
         requires { IsProps query.now self.now }
         ensures value { (g : AnyKeyParts) → NamesGroup query.now key g → result ≡ rows_of query.now g }
@@ -100,6 +103,7 @@ impl Props {
     }
 
     /// The estimated rows of a group.
+    #[inline(always)]
     pub fn group_rows(&self, query: &Query, group: KeyParts) -> u64
         requires props { IsProps query.now self.now }
         requires group { IsGroup query.now group }
@@ -122,6 +126,7 @@ impl Props {
     }
 
     /// Whether a hashed list has the number.
+    #[inline(always)]
     pub fn has_list(&self, query: &Query, list: u32) -> bool
         requires { IsProps query.now self.now }
         ensures { IsTrue result ↔ IsList query.now list }
@@ -130,6 +135,7 @@ impl Props {
     }
 
     /// Whether an order has the number; the empty order has 0.
+    #[inline(always)]
     pub fn has_order(&self, query: &Query, order: u32) -> bool
         requires { IsProps query.now self.now }
         ensures { IsTrue result ↔ IsNumbered query.now order }

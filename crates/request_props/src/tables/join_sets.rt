@@ -25,6 +25,7 @@ pub struct JoinSets {
 
 impl JoinSets {
     /// Whether the join can give what is asked for.
+    #[inline(always)]
     pub fn allow(self, wanted: Request) -> bool
         ensures { IsTrue result ↔ Allows self wanted }
     {
@@ -32,6 +33,7 @@ impl JoinSets {
     }
 
     // Whether it can give the distribution.
+    #[inline(always)]
     fn allow_dist(self, dist: Dist) -> bool
         ensures { IsTrue result ↔ AllowsDist self.lists dist }
     {

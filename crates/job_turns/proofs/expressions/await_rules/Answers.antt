@@ -1,8 +1,8 @@
 -- One rule more.
-use Rattle.std.proofs.Common.{◌≡◌, ◌+◌, ◌⊎◌, Some, get_or, sym, subst, inl, inr, ⊎_elim, arith}
+use Rattle.std.proofs.Common.{◌+◌, ◌⊎◌, get_or, sym, subst, arith}
 use Rattle.xform_rules.specs.declared.rules.Rule.TheVariants.{ExpandNAry}
 use Rattle.goal_board.specs.Seats.{hands}
-use Rattle.goal_space.specs.Phases.{IsRuleAt}
+use Rattle.goal_space.specs.Phases.{IsOfRule, IsRuleAt}
 use Rattle.goal_space.specs.declared.goals.GoalKind.{GoalKind}
 use Rattle.job_turns.specs.Works.{IsChildOf}
 use Rattle.job_turns.proofs.Staying.{stays_at_first, stays_then}
@@ -20,44 +20,48 @@ loop-rule-init g c = record {
       absurd (omega arith));
 }
 
-pub await_if-requires-clause-child : goal.await_if-requires-clause-child
-await_if-requires-clause-child g c = λ child is.
-    let of_rule = (c.rule_goal-goal.ensures child).0 is in
-    subst (λ k. IsChildOf c.args.search.now.query.now k child) (sym c.loop-rule.invariant.awaited.proceeds.same_goal)
-    (c.requires.children child (get_or c.rules_to_try-rules.result.now c.loop-rule.rule-index ExpandNAry, of_rule))
+pub await_rule-requires-clause-word : goal.await_rule-requires-clause-word
+await_rule-requires-clause-word g c = record {
+  packed = c.requires.packed;
+  number = sym c.make-word.ensures.number;
+}
 
-pub returns-then-not-await_if-clause-awaits : goal.returns-then-not-await_if-clause-awaits
-returns-then-not-await_if-clause-awaits g c =
+pub await_rule-requires-clause-children : goal.await_rule-requires-clause-children
+await_rule-requires-clause-children g c = λ child is.
+    subst (λ k. IsChildOf c.args.search.now.query.now k child) (sym c.loop-rule.invariant.awaited.proceeds.same_goal)
+    (c.requires.children child (get_or c.rules_to_try-rules.result.now c.loop-rule.rule-index ExpandNAry, is))
+
+pub returns-then-not-await_rule-clause-awaits : goal.returns-then-not-await_rule-clause-awaits
+returns-then-not-await_rule-clause-awaits g c =
     runs_out_after c.args.search.now.query.now c.args.search.now.board.now.setup.capacity
     (hands c.args.turn.now.seat.now)
     c.args.turn.now.job.right
     (IsRuleBefore c.args.search.now.query.now c.args.phase c.args.e c.rules_to_try-rules.result.now
     c.loop-rule.rule-index)
     (hands c.loop-rule.turn.seat.now) c.loop-rule.turn.job.right
-    (hands c.await_if.new.turn.seat.now) c.await_if.new.turn.job.right c.loop-rule.invariant.awaited
-    c.if-not-await_if.ensures.awaits
+    (hands c.await_rule.new.turn.seat.now) c.await_rule.new.turn.job.right c.loop-rule.invariant.awaited
+    c.if-not-await_rule.ensures.awaits
 
 pub loop-rule-preserved : goal.loop-rule-preserved
 loop-rule-preserved g c =
     let q = c.args.search.now.query.now in
     let b = c.args.search.now.board.now in
-    let before = IsRuleBefore q c.args.phase c.args.e c.rules_to_try-rules.result.now c.loop-rule.rule-index in
-    let here : GoalKind → Type 0 = λ child. c.rule_goal-goal.result ≡ Some child in
+    let rules = c.rules_to_try-rules.result.now in
+    let place = c.loop-rule.rule-index in
+    let before = IsRuleBefore q c.args.phase c.args.e rules place in
+    let here : GoalKind → Type 0 = IsOfRule q c.args.phase c.args.e (get_or rules place ExpandNAry) in
     record {
-      at_work = stays_then c.args.search.now c.args.turn.now c.loop-rule.turn c.await_if.new.turn _ _
-          c.loop-rule.invariant.at_work c.await_if.ensures.at_work;
+      at_work = stays_then c.args.search.now c.args.turn.now c.loop-rule.turn c.await_rule.new.turn _ _
+          c.loop-rule.invariant.at_work c.await_rule.ensures.at_work;
       awaited = has_others q b.setup.capacity (hands c.args.turn.now.seat.now) c.args.turn.now.job.right
-          (λ child. before child
-          ⊎ here child) (IsRuleBefore q c.args.phase c.args.e c.rules_to_try-rules.result.now
-          (c.loop-rule.rule-index + 1))
-          (λ child is. ⊎_elim (λ old. inl old) (λ new. inr ((c.rule_goal-goal.ensures child).1 new))
-          (rule_more q c.args.phase c.args.e c.rules_to_try-rules.result.now c.loop-rule.rule-index child is))
-          (hands c.await_if.new.turn.seat.now) c.await_if.new.turn.job.right
+          (λ child. before child ⊎ here child) (IsRuleBefore q c.args.phase c.args.e rules (place + 1))
+          (rule_more q c.args.phase c.args.e rules place)
+          (hands c.await_rule.new.turn.seat.now) c.await_rule.new.turn.job.right
           (has_both q b.setup.capacity (hands c.args.turn.now.seat.now) c.args.turn.now.job.right before here
           (hands c.loop-rule.turn.seat.now)
-          c.loop-rule.turn.job.right (hands c.await_if.new.turn.seat.now) c.await_if.new.turn.job.right
+          c.loop-rule.turn.job.right (hands c.await_rule.new.turn.seat.now) c.await_rule.new.turn.job.right
           c.loop-rule.invariant.awaited
-          c.if-not-await_if.ensures.awaits);
+          c.if-not-await_rule.ensures.awaits);
     }
 
 pub returns-clause-awaits : goal.returns-clause-awaits

@@ -5,6 +5,7 @@ use Rattle.goal_space.specs.Phases.{phase_goal_of_expr, IsRuleAt}
 use Rattle.goal_space.proofs.Phases.{children_in_phase, asks_for_none, chooses_none}
 use Rattle.xform_rules.specs.Closure.{IsMember}
 use Rattle.job_turns.specs.Works.{IsChildOf, IsOneOf}
+use Rattle.job_turns.proofs.GoalsHeld.{has_word, packed_in_phase}
 use Rattle.job_turns.proofs.Staying.{small_of}
 use Rattle.job_turns.proofs.Awaited.{has_both, runs_out_after}
 use Rattle.job_turns.proofs.Promises.{runs_out, works_of_children}
@@ -28,6 +29,13 @@ returns-then-not-await_both-clause-works g c =
     c.args.turn.now.job.right
     (hands c.await_both.new.turn.seat.now) c.await_both.new.turn.job.right c.requires.goal
     c.if-not-await_both.ensures.awaits
+
+pub await_rules-requires-clause-packed : goal.await_rules-requires-clause-packed
+await_rules-requires-clause-packed g c =
+    let q = c.args.search.now.query.now in
+    packed_in_phase c.args.phase c.args.e
+    (has_word q (c.goals_are_known.ensures.words q) (small_of c.requires.at_work.has_job.its)
+    c.args.turn.now.job.right.goal (phase_goal_of_expr c.args.phase c.args.e, c.requires.goal)).in_range
 
 pub await_rules-requires-clause-children : goal.await_rules-requires-clause-children
 await_rules-requires-clause-children g c = λ child is.

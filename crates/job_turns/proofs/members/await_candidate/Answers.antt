@@ -15,14 +15,14 @@ use Rattle.job_turns.proofs.members.await_candidate.Goals as goal
 
 pub goal_here-requires-clause-numbered : goal.goal_here-requires-clause-numbered
 goal_here-requires-clause-numbered g c =
-    (c.goals_are_known.ensures.requests c.args.search.now.query.now (Opt c.args.candidate.expr.group c.args.wanted)
+    (c.goals_are_known.ensures.requests c.args.search.now.query.now (Opt c.args.candidate.now.expr.group c.args.wanted)
     c.requires.goal.is_goal).numbered
 
 pub goal_here-requires-clause-in_range : goal.goal_here-requires-clause-in_range
 goal_here-requires-clause-in_range g c =
     (c.goals_are_known.ensures.words c.args.search.now.query.now c.requires.at_work.has_job.its.props.few_lists
     c.requires.at_work.has_job.its.props.few_orders
-    (Opt c.args.candidate.expr.group c.args.wanted) c.requires.goal.is_goal).1
+    (Opt c.args.candidate.now.expr.group c.args.wanted) c.requires.goal.is_goal).1
 
 pub await_best-requires-clause-word : goal.await_best-requires-clause-word
 await_best-requires-clause-word g c = c.in-Some.ensures.goal.1
@@ -42,7 +42,7 @@ returns-in-None-clause-at_work g c =
 pub returns-in-None-clause-chooses : goal.returns-in-None-clause-chooses
 returns-in-None-clause-chooses g c =
     let q = c.args.search.now.query.now in
-    let e = c.args.candidate.expr in
+    let e = c.args.candidate.now.expr in
     let wanted = c.args.wanted in
     let capacity = c.args.search.now.board.now.setup.capacity in
     let v = hands c.args.turn.now.seat.now in
@@ -64,13 +64,13 @@ await_best-requires-clause-at_work g c =
 
 pub await_best-requires-clause-child : goal.await_best-requires-clause-child
 await_best-requires-clause-child g c =
-    let e = c.args.candidate.expr in
+    let e = c.args.candidate.now.expr in
     (Opt e.group c.args.wanted, c.requires.goal, inr (inl (e, c.in-Some.ensures.goal.0, refl)))
 
 pub returns-in-Some-clause-chooses : goal.returns-in-Some-clause-chooses
 returns-in-Some-clause-chooses g c =
     let q = c.args.search.now.query.now in
-    let e = c.args.candidate.expr in
+    let e = c.args.candidate.now.expr in
     let wanted = c.args.wanted in
     let capacity = c.args.search.now.board.now.setup.capacity in
     let v = hands c.args.turn.now.seat.now in

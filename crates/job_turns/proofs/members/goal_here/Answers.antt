@@ -21,8 +21,8 @@ use Rattle.job_turns.proofs.members.goal_here.Goals as goal
 pub member_goal-goal-requires-clause-expr : goal.member_goal-goal-requires-clause-expr
 member_goal-goal-requires-clause-expr c =
     let candidate = c.requires.candidate in
-    let small = c.expressions_are_one.ensures.small (expr_of c.args.candidate.expr)
-    (c.candidates_are_known.ensures.packed c.args.search.now.query.now (expr_of c.args.candidate.expr)
+    let small = c.expressions_are_one.ensures.small (expr_of c.args.candidate.now.expr)
+    (c.candidates_are_known.ensures.packed c.args.search.now.query.now (expr_of c.args.candidate.now.expr)
     candidate.candidate)
     in
     subst FitsExpr candidate.number small
@@ -56,21 +56,21 @@ returns-then-is_made-clause-goal c =
         mode = serves.0;
         serves = serves.1;
       },
-      c.member_goal-goal.ensures.word c.args.candidate.expr c.requires.candidate.number,
+      c.member_goal-goal.ensures.word c.args.candidate.now.expr c.requires.candidate.number,
     )
 
 -- any other is looked for
 pub returns-then-holds-clause-looks : goal.returns-then-holds-clause-looks
 returns-then-holds-clause-looks c = only_looks_held c.args.search.now.board.now.setup.capacity (hands c.args.seat.now)
-    c.args.candidate.word c.holds.result (hands c.holds.new.seat) c.holds.ensures.answer
+    c.args.candidate.now.word c.holds.result (hands c.holds.new.seat) c.holds.ensures.answer
 
 pub returns-then-holds-clause-goal : goal.returns-then-holds-clause-goal
 returns-then-holds-clause-goal c =
     let q = c.args.search.now.query.now in
     let b = c.args.search.now.board.now in
     let v = hands c.args.seat.now in
-    let word = c.args.candidate.word in
-    let e = c.args.candidate.expr in
+    let word = c.args.candidate.now.word in
+    let e = c.args.candidate.now.expr in
     let some_word : word ≢ 0 = let some = word_some (expr_of e) in omega arith in
     let serves = c.may_serve_by.ensures.0 c.if-not-may_serve_by.false in
     let at = held_at b.setup.capacity v word (hands c.holds.new.seat)
@@ -91,16 +91,16 @@ returns-then-holds-clause-goal c =
 
 pub returns-else-holds-clause-looks : goal.returns-else-holds-clause-looks
 returns-else-holds-clause-looks c = only_looks_held c.args.search.now.board.now.setup.capacity (hands c.args.seat.now)
-    c.args.candidate.word c.holds.result (hands c.holds.new.seat) c.holds.ensures.answer
+    c.args.candidate.now.word c.holds.result (hands c.holds.new.seat) c.holds.ensures.answer
 
 pub returns-else-holds-clause-goal : goal.returns-else-holds-clause-goal
 returns-else-holds-clause-goal c =
     let q = c.args.search.now.query.now in
     let b = c.args.search.now.board.now in
     let v = hands c.args.seat.now in
-    let e = c.args.candidate.expr in
+    let e = c.args.candidate.now.expr in
     λ can. false≢true (sym c.if-holds.false ∙ c.holds.ensures.shown
-    (subst (λ (x : Query). ShowsEntry (meaning_of x) b.setup.capacity v.looks c.args.candidate.word)
+    (subst (λ (x : Query). ShowsEntry (meaning_of x) b.setup.capacity v.looks c.args.candidate.now.word)
     (sym c.requires.search.same_query)
-    (member_shown q b.setup.capacity v.looks e c.requires.implemented can.member c.args.candidate.word
+    (member_shown q b.setup.capacity v.looks e c.requires.implemented can.member c.args.candidate.now.word
     c.requires.candidate.number)))
