@@ -47,6 +47,12 @@ module _ (q : Query) (splits : (set a b : ℕ) → AreJoinRulesOn q → IsGroup 
       result (logical_in g (logical.Join l r)) (physical_in g (physical.MergeJoin l r)) rules.JoinToMerge 0 split_member
       (record { on = merges; group = refl; gives = (refl, refl, ((refl, refl), (l, r, refl, crosses))) })
 
+  -- their hash join likewise
+  pub hash_member : IsOn q rules.JoinToHash → HasCrossing q l r → IsMember q (physical_in g (physical.HashJoin l r))
+  hash_member hashes crosses =
+      result (logical_in g (logical.Join l r)) (physical_in g (physical.HashJoin l r)) rules.JoinToHash 0 split_member
+      (record { on = hashes; group = refl; gives = (refl, refl, ((refl, refl), (l, r, refl, crosses))) })
+
   -- and their loop join
   pub loop_member : IsOn q rules.JoinToLoop → IsMember q (physical_in g (physical.LoopJoin l r))
   loop_member loops =

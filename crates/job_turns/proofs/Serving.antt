@@ -1,5 +1,5 @@
 -- The members of a group that may serve a request, tried one after the other.
-use Rattle.std.proofs.Common.{◌≡◌, ◌⊎◌, ℕ, List, [], ◌∷◌, ◌++◌, ◌+◌, ◌<◌, length, get_or, take, Option, None, refl, sym}
+use Rattle.std.proofs.Common.{◌≡◌, ◌⊎◌, ℕ, List, [], ◌∷◌, ◌++◌, ◌+◌, ◌<◌, length, get_or, take, Option, None, Some, refl, sym}
 use Rattle.std.proofs.Common.{ap, subst, ◌∙◌, inl, inr, ⊎_elim, arith}
 use Rattle.std.specs.List.{Contains}
 use Rattle.std.proofs.lemmas.List.{take_more}
@@ -32,8 +32,15 @@ use Rattle.goal_space.specs.declared.goals.GoalKind.TheVariants.{OptE}
 use Rattle.job_turns.specs.Requests.{IsMemberGoal, IsGoalOfMember, IsBestOfMember, IsBestOfMembers, first_enforcers}
 use Rattle.job_turns.specs.Choices.{FindsBest, best_of_both}
 use Rattle.job_turns.specs.declared.known_best.KnownBest.{KnownBest}
+use Rattle.job_turns.specs.declared.known_best.KnownBest.TheVariants.{Known, Open}
 use Rattle.job_turns.proofs.Enforced.{first_has}
 use Rattle.job_turns.proofs.Finding.{finds_both, finds_others}
+
+-- no answer beside what is known changes nothing
+pub both_with_none : (known_best : KnownBest) → best_of_both known_best (Known None) ≡ known_best
+both_with_none (Known None) = refl
+both_with_none (Known (Some best)) = refl
+both_with_none Open = refl
 
 module _ (q : Query) (group : KeyParts) (wanted : Request) where
   -- the goal of a member among these

@@ -3,6 +3,7 @@ pub mod Searches
 pub mod Works
 pub mod Groups
 pub mod Results
+pub mod EquatedJoins
 pub mod Choices
 pub mod Requests
 pub mod Finds

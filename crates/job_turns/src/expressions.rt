@@ -10,6 +10,7 @@ ghost use Rattle.job_turns.specs.Works.{IsOneOf};
 ghost use Rattle.job_turns.specs.Seats.{IsTurnOf, AreTurnChildren, TurnAwaits, TurnWorks};
 
 use crate::board_search::BoardSearch;
+use crate::equated_joins::is_tried;
 use crate::job_turn::JobTurn;
 use crate::laws::words_are_known;
 use crate::operator_rules::rules_to_try;
@@ -104,7 +105,7 @@ fn await_rule<'q, H: Hints>(
 {
     // For the proof: an expression has a small word.
     expressions_are_one();
-    if !phase.tries(search.query, e, rule) {
+    if !is_tried(search.query, search.props, phase, e, rule) {
         return true;
     }
     let child = GoalKind::Xf(e, rule);

@@ -3,6 +3,7 @@
 
 mod board_search;
 mod enforcers;
+mod equated_joins;
 mod expressions;
 mod group_members;
 mod groups;

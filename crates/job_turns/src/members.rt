@@ -1,11 +1,10 @@
 //! The members of a group that may serve a request, and the best answer of them.
 #![tactic(auto)]
 
-ghost use Rattle.std.specs.Prelude.{◌≡◌, IfSome, None, slice_index_or};
+ghost use Rattle.std.specs.Prelude.{◌≡◌, None, slice_index_or};
 ghost use Rattle.request_props.specs.Candidates.{IsPhysicalOf};
-ghost use Rattle.request_props.specs.JoinSets.{AreSetsOf};
-ghost use Rattle.request_props.specs.Numbered.{IsNumbered};
 ghost use Rattle.request_props.specs.Requests.{IsRequestInRange};
+ghost use Rattle.plan_tree.specs.ServingModes.{MayServe};
 ghost use Rattle.goal_board.specs.Seats.{hands};
 ghost use Rattle.board_moves.specs.Moves.{OnlyLooks};
 ghost use Rattle.goal_space.specs.declared.goals.GoalKind.TheVariants.{Opt};
@@ -48,26 +47,28 @@ pub(crate) fn best_member<'q, H: Hints>(
     let (candidates, joins) = search.props.physical_of(search.query, group);
     let mut known_best = KnownBest::Known(None);
     for place in 0..candidates.len() {
+        let candidate = &candidates[place];
         let sets = sets_at(joins, place);
-        let other = await_candidate(search, turn, &candidates[place], sets, wanted)?;
-        known_best = known_best.or(other);
+        if may_serve_by(search.query, search.props, &candidate.expr, sets, wanted) {
+            let other = await_candidate(search, turn, candidate, wanted)?;
+            known_best = known_best.or(other);
+        }
     }
     Some(known_best)
 }
 
-// The best answer of a candidate, if it is a member that may serve the request. None where its goal found every
-// cell taken.
+// The best answer of a candidate that may serve the request, if it is a member. None where its goal found every cell
+// taken.
 #[inline(always)]
 fn await_candidate<'q, H: Hints>(
     search: &BoardSearch<'_, 'q>,
     turn: &mut JobTurn<'_, 'q, H>,
     candidate: &PhysicalCandidate,
-    sets: Option<JoinSets>,
     wanted: Request,
 ) -> Option<KnownBest>
     requires at_work { IsAtWork search.now turn.old (H.capacity turn.old.hints.now) }
     requires candidate { IsPhysicalOf search.now.query.now candidate.now.expr.group candidate.now }
-    requires sets { IfSome sets (AreSetsOf search.now.query.now candidate.now.expr.operator) }
+    requires serves { MayServe search.now.query.now candidate.now.expr wanted }
     requires goal { IsTurnOf search.now turn.old (Opt candidate.now.expr.group wanted) }
     requires implemented { ShowsImplemented search.now turn.old.seat.now candidate.now.expr.group }
     ensures at_work { StaysAtWork search.now turn.old turn.new (H.capacity turn.new.hints.now) }
@@ -76,7 +77,7 @@ fn await_candidate<'q, H: Hints>(
     // For the proof: the request is one of the query's, and the best of no nodes is none.
     goals_are_known();
     answers_are_best();
-    match goal_here(search, turn.seat, candidate, sets, wanted) {
+    match goal_here(search, turn.seat, candidate, wanted) {
         Some(goal) => {
             let child = GoalKind::OptE(candidate.expr, wanted);
             await_best(search, turn, child, goal)
@@ -85,20 +86,18 @@ fn await_candidate<'q, H: Hints>(
     }
 }
 
-// The word of the candidate's goal, if it is a member that may serve the request.
+// The word of the goal of a candidate that may serve the request, if it is a member.
 #[inline(always)]
 fn goal_here<'q>(
     search: &BoardSearch<'_, 'q>,
     seat: &mut Seat<Rules<'q>>,
     candidate: &PhysicalCandidate,
-    sets: Option<JoinSets>,
     wanted: Request,
 ) -> Option<Goal>
     requires search { IsBoardSearch search.now }
     requires seat { IsSeat search.now.board.now seat.old }
     requires candidate { IsPhysicalOf search.now.query.now candidate.now.expr.group candidate.now }
-    requires sets { IfSome sets (AreSetsOf search.now.query.now candidate.now.expr.operator) }
-    requires numbered { IsNumbered search.now.query.now wanted.order }
+    requires serves { MayServe search.now.query.now candidate.now.expr wanted }
     requires in_range { IsRequestInRange wanted }
     requires implemented { ShowsImplemented search.now seat.old candidate.now.expr.group }
     ensures seat { IsSeat search.now.board.now seat.new }
@@ -109,12 +108,9 @@ fn goal_here<'q>(
     candidates_are_known();
     expressions_are_one();
     entries_are_known();
-    if !may_serve_by(search.query, search.props, &candidate.expr, sets, wanted) {
-        return None;
-    }
     let goal = member_goal(Expr(candidate.word), wanted);
     // Where the rules alone tell that it is a member, its cell needn't be found.
-    if is_made(search.query, candidate.expr) {
+    if is_made(search.query, search.props, candidate.expr) {
         return Some(goal);
     }
     if search.board.holds(seat, candidate.word) {

@@ -10,6 +10,7 @@ ghost use Rattle.job_turns.specs.Seats.{IsTurnChild, AreTurnChildren, TurnAwaits
 use crate::board_search::BoardSearch;
 use crate::job_turn::JobTurn;
 use crate::laws::words_are_known;
+use crate::words::word_of_goal;
 use board_moves::Progress;
 use goal_board::Hints;
 use goal_space::GoalKind;
@@ -29,7 +30,7 @@ pub(crate) fn await_goal<'q, H: Hints>(
 {
     // For the proof: a child of a goal has a word.
     words_are_known();
-    await_word(search, turn, child, child.word())
+    await_word(search, turn, child, word_of_goal(child))
 }
 
 /// Awaits a child of the goal, which has this word.

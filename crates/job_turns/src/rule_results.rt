@@ -13,6 +13,7 @@ ghost use Rattle.job_turns.specs.Results.{IsFromRule, IsFromRuleAt, IsFromBound,
 ghost use Rattle.job_turns.specs.Seats.{IsTurnOf, AsksForMember, AsksForAll, Puts, ShowsLogical, TurnWorks};
 
 use crate::board_search::BoardSearch;
+use crate::equated_joins::nth_result;
 use crate::expressions::NO_CHOICE;
 use crate::group_members::ExploredGroup;
 use crate::job_turn::JobTurn;
@@ -23,9 +24,7 @@ use goal_board::{Hints, Inserted, Seat};
 use goal_rules::{Rules, entries_are_known};
 use goal_space::{GoalKind, goals_are_known};
 use query_core::{Children, Expr, ExprParts, KeyParts, candidates_are_known};
-use xform_rules::{
-    Rule, members_are_candidates, result_at, results_are_candidates, results_are_known,
-};
+use xform_rules::{Rule, members_are_candidates, results_are_candidates, results_are_known};
 
 /// A rule at an expression, with the member that it binds or with none.
 #[derive(Clone, Copy)]
@@ -193,7 +192,7 @@ fn put_result<'q>(
     // For the proof: a result of a candidate is one, and there is one of each number.
     results_are_candidates();
     candidates_are_known();
-    match result_at(search.query, binding.rule, binding.e, binding.bound, n) {
+    match nth_result(search.query, search.props, binding, n) {
         Some(other) => put_brought(search, seat, job, other),
         None => true,
     }

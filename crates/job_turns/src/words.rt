@@ -1,4 +1,4 @@
-//! The words of goals for requests, by the words of what they are about.
+//! The words of goals, by the words of what they are about.
 #![tactic(auto)]
 
 ghost use Rattle.std.specs.Prelude.{◌≡◌, ◌<◌, ◌^◌};
@@ -12,9 +12,25 @@ ghost use Rattle.request_props.specs.Requests.{IsRequestInRange};
 ghost use Rattle.goal_space.specs.Words.{goal_word, IsGoalInRange};
 ghost use Rattle.goal_space.specs.declared.goals.GoalKind.TheVariants.{Opt, OptE, Xf};
 
+use goal_space::GoalKind;
 use query_core::{Expr, Goal, GoalParts, Key, KeyParts, groups_are_known};
 use request_props::{Request, code};
 use xform_rules::Rule;
+
+/// The word of the goal. That of a group, which goals wait for most, is made without a call.
+#[inline(always)]
+pub(crate) fn word_of_goal(goal: GoalKind) -> Goal
+    requires { IsGoalInRange goal }
+    ensures number { result.0 ≡ goal_word goal }
+{
+    // For the proof: a group has a small key.
+    groups_are_known();
+    match goal {
+        GoalKind::Exp(group) => Goal::make(GoalParts::Exp(Key::make(group))),
+        GoalKind::Imp(group) => Goal::make(GoalParts::Imp(Key::make(group))),
+        _ => goal.word(),
+    }
+}
 
 /// The word of the goal of the group of this key for the request.
 #[inline(always)]

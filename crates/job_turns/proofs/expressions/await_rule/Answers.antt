@@ -8,13 +8,13 @@ use Rattle.goal_space.specs.declared.goals.GoalKind.TheVariants.{Xf}
 use Rattle.job_turns.proofs.Awaited.{has_none, has_one, has_others}
 use Rattle.job_turns.proofs.expressions.await_rule.Goals as goal
 
-pub returns-then-not-tries-clause-awaits : goal.returns-then-not-tries-clause-awaits
-returns-then-not-tries-clause-awaits g c =
+pub returns-then-not-is_tried-clause-awaits : goal.returns-then-not-is_tried-clause-awaits
+returns-then-not-is_tried-clause-awaits g c =
     has_none c.args.search.now.query.now c.args.search.now.board.now.setup.capacity (hands c.args.turn.now.seat.now)
     c.args.turn.now.job.right
     (IsOfRule c.args.search.now.query.now c.args.phase c.args.e c.args.rule) (λ child is.
-    let tried = c.tries.ensures.1 is.0 in
-    absurd (grind (arith, tried, c.if-not-tries.true)))
+    let tried = c.is_tried.ensures.1 is.0 in
+    absurd (grind (arith, tried, c.if-not-is_tried.true)))
 
 pub returns-in-Complete-clause-awaits : goal.returns-in-Complete-clause-awaits
 returns-in-Complete-clause-awaits g c =

@@ -6,11 +6,25 @@ use Rattle.xform_rules.specs.Forms.{physical_in}
 use Rattle.xform_rules.specs.Closure.{IsMember}
 use Rattle.plan_space.specs.Lines.{operator_line, merge_line}
 use Rattle.plan_space.specs.Modes.{mode_at}
-use Rattle.job_turns.proofs.JoinsMade.{merge_crosses, merge_member, loop_member}
+use Rattle.job_turns.proofs.JoinsMade.{merge_crosses, hash_member, merge_member, loop_member}
 use Rattle.job_turns.proofs.made_joins.is_made.Goals as goal
 
-pub returns-then-turns_joins : goal.returns-then-turns_joins
-returns-then-turns_joins c =
+pub returns-then-makes_all : goal.returns-then-makes_all
+returns-then-makes_all c =
+    let q = c.args.query.now in
+    let g = c.args.e.group in
+    let l = c.in-HashJoin.left in
+    let r = c.in-HashJoin.right in
+    let joins : IsJoin q g l r = (subst (HasPhysical q g) c.in-HashJoin.is c.requires.candidate.shape).0 in
+    let on = c.makes_all.ensures c.if-makes_all.true in
+    record {
+      member = λ equated. subst (λ (o : Physical). IsMember q (physical_in g o)) (sym c.in-HashJoin.is)
+          (hash_member q (c.splits_are_complete.ensures.splits q) on.0 g l r c.requires.candidate.known joins on.1
+          (c.are_equated.ensures.0 equated));
+    }
+
+pub returns-in-MergeJoin : goal.returns-in-MergeJoin
+returns-in-MergeJoin c =
     let q = c.args.query.now in
     let g = c.args.e.group in
     let l = c.in-MergeJoin.field-0 in
@@ -21,12 +35,12 @@ returns-then-turns_joins c =
     subst (λ (o : Physical). IsSome (operator_line q g o mode)) c.in-MergeJoin.is c.requires.has_mode.1 in
     record {
       member = λ on. subst (λ (o : Physical). IsMember q (physical_in g o)) (sym c.in-MergeJoin.is)
-          (merge_member q (c.splits_are_complete.ensures.splits q) (c.turns_joins.ensures.0 c.if-turns_joins.true) g l r
-          c.requires.candidate.known joins (c.is_on.ensures.0 on) (merge_crosses q l r mode some));
+          (merge_member q (c.splits_are_complete.ensures.splits q) (c.makes_all-in-MergeJoin.ensures on).0 g l r
+          c.requires.candidate.known joins (c.makes_all-in-MergeJoin.ensures on).1 (merge_crosses q l r mode some));
     }
 
-pub returns-then-turns_joins-2 : goal.returns-then-turns_joins-2
-returns-then-turns_joins-2 c =
+pub returns-in-LoopJoin : goal.returns-in-LoopJoin
+returns-in-LoopJoin c =
     let q = c.args.query.now in
     let g = c.args.e.group in
     let l = c.in-LoopJoin.field-0 in
@@ -34,7 +48,6 @@ returns-then-turns_joins-2 c =
     let joins : IsJoin q g l r = (subst (HasPhysical q g) c.in-LoopJoin.is c.requires.candidate.shape).0 in
     record {
       member = λ on. subst (λ (o : Physical). IsMember q (physical_in g o)) (sym c.in-LoopJoin.is)
-          (loop_member q (c.splits_are_complete.ensures.splits q)
-          (c.turns_joins-in-LoopJoin.ensures.0 c.if-turns_joins-2.true) g l r c.requires.candidate.known joins
-          (c.is_on-then-turns_joins-2.ensures.0 on));
+          (loop_member q (c.splits_are_complete.ensures.splits q) (c.makes_all-in-LoopJoin.ensures on).0 g l r
+          c.requires.candidate.known joins (c.makes_all-in-LoopJoin.ensures on).1);
     }

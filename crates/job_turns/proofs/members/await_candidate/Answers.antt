@@ -13,11 +13,6 @@ use Rattle.job_turns.proofs.Finding.{finds_none, finds_looked, looks_choose, cho
 use Rattle.job_turns.proofs.Serving.{best_without, best_with}
 use Rattle.job_turns.proofs.members.await_candidate.Goals as goal
 
-pub goal_here-requires-clause-numbered : goal.goal_here-requires-clause-numbered
-goal_here-requires-clause-numbered g c =
-    (c.goals_are_known.ensures.requests c.args.search.now.query.now (Opt c.args.candidate.now.expr.group c.args.wanted)
-    c.requires.goal.is_goal).numbered
-
 pub goal_here-requires-clause-in_range : goal.goal_here-requires-clause-in_range
 goal_here-requires-clause-in_range g c =
     (c.goals_are_known.ensures.words c.args.search.now.query.now c.requires.at_work.has_job.its.props.few_lists

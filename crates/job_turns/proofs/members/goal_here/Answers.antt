@@ -27,21 +27,13 @@ member_goal-goal-requires-clause-expr c =
     in
     subst FitsExpr candidate.number small
 
--- one that can't serve isn't looked for
-pub returns-then-not-may_serve_by-clause-looks : goal.returns-then-not-may_serve_by-clause-looks
-returns-then-not-may_serve_by-clause-looks c = looks_none (hands c.args.seat.now)
-
-pub returns-then-not-may_serve_by-clause-goal : goal.returns-then-not-may_serve_by-clause-goal
-returns-then-not-may_serve_by-clause-goal c =
-    λ can. false≢true (sym c.if-not-may_serve_by.true ∙ c.may_serve_by.ensures.1 (can.mode, can.serves))
-
 -- what may serve a request has a mode
 pub is_made-requires-clause-candidate : goal.is_made-requires-clause-candidate
 is_made-requires-clause-candidate c = c.requires.candidate.candidate
 
 pub is_made-requires-clause-has_mode : goal.is_made-requires-clause-has_mode
 is_made-requires-clause-has_mode c =
-    let serves = c.may_serve_by.ensures.0 c.if-not-may_serve_by.false in (serves.0, ap is_some serves.1.1.is_line)
+    let serves = c.requires.serves in (serves.0, ap is_some serves.1.1.is_line)
 
 -- one that the rules make is a member without a look
 pub returns-then-is_made-clause-looks : goal.returns-then-is_made-clause-looks
@@ -49,7 +41,7 @@ returns-then-is_made-clause-looks c = looks_none (hands c.args.seat.now)
 
 pub returns-then-is_made-clause-goal : goal.returns-then-is_made-clause-goal
 returns-then-is_made-clause-goal c =
-    let serves = c.may_serve_by.ensures.0 c.if-not-may_serve_by.false in (
+    let serves = c.requires.serves in (
       record {
         member = c.is_made.ensures.member c.if-is_made.true;
         of_group = refl;
@@ -72,7 +64,7 @@ returns-then-holds-clause-goal c =
     let word = c.args.candidate.now.word in
     let e = c.args.candidate.now.expr in
     let some_word : word ≢ 0 = let some = word_some (expr_of e) in omega arith in
-    let serves = c.may_serve_by.ensures.0 c.if-not-may_serve_by.false in
+    let serves = c.requires.serves in
     let at = held_at b.setup.capacity v word (hands c.holds.new.seat)
     (subst (λ (found : Bool). FindsWhether b.setup.capacity v word found (hands c.holds.new.seat)) c.if-holds.true
     c.holds.ensures.answer) in

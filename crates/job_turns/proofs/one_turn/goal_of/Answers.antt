@@ -1,5 +1,5 @@
 -- The goal that the seat holds is an entry and a goal, so its word is that of a goal of the query.
-use Rattle.std.proofs.Common.{ℕ, sym, subst}
+use Rattle.std.proofs.Common.{sym, subst}
 use Rattle.std.proofs.lemmas.Bool.{leb-true}
 use Rattle.query_core.specs.Goals.{goal_bit}
 use Rattle.query_core.specs.declared.query.Query.{Query}

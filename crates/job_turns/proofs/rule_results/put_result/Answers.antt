@@ -7,12 +7,12 @@ use Rattle.job_turns.proofs.MembersPut.{put_none, puts_others}
 use Rattle.job_turns.proofs.RuleLemmas.{bound_packed}
 use Rattle.job_turns.proofs.rule_results.put_result.Goals as goal
 
-pub result_at-requires-clause-e : goal.result_at-requires-clause-e
-result_at-requires-clause-e c = c.candidates_are_known.ensures.packed c.args.search.now.query.now c.args.binding.e
+pub nth_result-requires-clause-e : goal.nth_result-requires-clause-e
+nth_result-requires-clause-e c = c.candidates_are_known.ensures.packed c.args.search.now.query.now c.args.binding.e
     c.requires.e
 
-pub result_at-requires-clause-bound : goal.result_at-requires-clause-bound
-result_at-requires-clause-bound c = bound_packed c.args.search.now.query.now
+pub nth_result-requires-clause-bound : goal.nth_result-requires-clause-bound
+nth_result-requires-clause-bound c = bound_packed c.args.search.now.query.now
     (c.candidates_are_known.ensures.packed c.args.search.now.query.now) c.args.binding.bound c.requires.bound
 
 pub put_brought-requires-clause-candidate : goal.put_brought-requires-clause-candidate
