@@ -57,6 +57,13 @@ chosen_some false false s t = (
       elim one [ inl never ↦ absurd (let wrong : ⊥ = cc in wrong) | inr never ↦ absurd (let wrong : ⊥ = cc in wrong) ],
 )
 
+-- without either test none is taken
+chosen_none : (x y : Bool) (s t : ℕ × ℕ) → (IsTrue x → ⊥) → (IsTrue y → ⊥)
+    → (if x then Some s else if y then Some t else None) ≡ None
+chosen_none true y s t not_first not_second = absurd (not_first refl)
+chosen_none false true s t not_first not_second = absurd (not_second refl)
+chosen_none false false s t not_first not_second = refl
+
 -- and whether its first number is one of some
 chosen_by : (IsOne : ℕ → Type 0) (x y : Bool) (s t : ℕ × ℕ)
     → ((c d : ℕ) × ((if x then Some s else if y then Some t else None) ≡ Some (c, d)) × IsOne c)
@@ -95,6 +102,12 @@ module _ (q : Query) (left right : KeyParts) (n : ℕ) (first second : EqualityE
     to_left : (IsInSet first.second n × IsInSet second.first n) ↔ IsTrue (has_item q left b && has_item q right a)
     to_left = both_pass _ _ (second_in q n a b is (HasColumn q left) first of_left)
         (first_in q n a b is (HasColumn q right) second of_right)
+
+    -- without either no pair is taken
+    pub no_sides : (IsInSet first.first n × IsInSet second.second n → ⊥)
+        → (IsInSet first.second n × IsInSet second.first n → ⊥) → sides_of q left right a b ≡ None
+    no_sides no_right no_left =
+        chosen_none _ _ (a, b) (b, a) (λ pass. no_right (to_right.1 pass)) (λ pass. no_left (to_left.1 pass))
 
     some_in : (sides_of q left right a b ≡ None → ⊥) ↔ HasAcross first second n
     some_in =

@@ -1,7 +1,7 @@
 -- What is found of keys, and of the sides of equalities.
 use Rattle.std.proofs.Common.{◌≡◌, ℕ, zero, suc, ◌+◌, ◌<◌, ◌↔◌, Bool, false, List, [], ◌∷◌, ◌++◌, length, get_or}
 use Rattle.std.proofs.Common.{Option, Some, None, inl, inr, refl, sym, subst, arith, IsTrue}
-use Rattle.std.specs.Prelude.{slice_index_or}
+use Rattle.std.specs.Prelude.{slice_get, slice_index_or}
 use Rattle.std.specs.List.{list_all}
 use Rattle.std.specs.Option.{option_map_or}
 use Rattle.std.proofs.lemmas.Bool.{and_parts, cases_lt}
@@ -12,6 +12,8 @@ use Rattle.query_core.specs.Keys.{IsKey}
 use Rattle.query_core.specs.declared.predicate.Pred.{Pred}
 use Rattle.query_core.specs.declared.query.Query.{Query}
 use Rattle.query_core.specs.declared.words.KeyParts.{KeyParts}
+use Rattle.request_props.specs.Counted.{HaveNumbers}
+use Rattle.request_props.specs.Ends.{IsEqualityAt}
 use Rattle.request_props.specs.Groups.{AreKeysBelow, key_of}
 use Rattle.request_props.specs.Numbered.{side_of, equality_with, equality_of}
 use Rattle.request_props.specs.declared.sides.Equality.{Equality}
@@ -40,36 +42,41 @@ all_at p [] all k d within = absurd (omega (arith, within))
 all_at p (x ∷ xs) all zero d within = (and_parts _ _ all).0
 all_at p (x ∷ xs) all (suc k) d within = all_at p xs (and_parts _ _ all).1 k d (omega (arith, within))
 
--- an equality has its two sides, and equates these across two groups
-pub record Equates (q : Query) (left right : KeyParts) (e : Equality) (crossing : Option (ℕ × ℕ)) : Type 0 where
-  pub is_left : e.left ≡ side_of q e.left.column
-  pub is_right : e.right ≡ side_of q e.right.column
+-- the predicate of this number is the equality, with the numbers of its columns, and equates these across two groups
+pub record Equates (q : Query) (left right : KeyParts) (number : ℕ) (e : Equality)
+    (crossing : Option (ℕ × ℕ)) : Type 0 where
+  pub is_at : IsEqualityAt q number e.left.column e.right.column
+  pub numbers : HaveNumbers q (Some e)
   pub same : crossing ≡ sides_of q left right e.left.column e.right.column
 
-none_with : (q : Query) (left right : KeyParts) (a : ℕ) (b : Option ℕ) → equality_with q a b ≡ None
-    → sides_with q left right a b ≡ None
-none_with q left right a None is = refl
-none_with q left right a (Some b) is = cc
+module _ (q : Query) (left right : KeyParts) where
+  none_with : (a : ℕ) (b : Option ℕ) → equality_with q a b ≡ None → sides_with q left right a b ≡ None
+  none_with a None is = refl
+  none_with a (Some b) is = cc
 
-some_with : (q : Query) (left right : KeyParts) (a : ℕ) (b : Option ℕ) (e : Equality) → equality_with q a b ≡ Some e
-    → Equates q left right e (sides_with q left right a b)
-some_with q left right a None e is = cc
-some_with q left right a (Some b) e is =
-    let both : Equality = record { left = side_of q a; right = side_of q b } in
-    let same : both ≡ e = cc in
-    subst (λ (f : Equality). Equates q left right f (sides_of q left right a b)) same
-    (record { is_left = refl; is_right = refl; same = refl })
+  -- no equality crosses nowhere
+  pub crossing_none : (pred : Option Pred) → option_map_or (equality_of q) pred None ≡ None
+      → crossing_at q left right pred ≡ None
+  crossing_none None is = refl
+  crossing_none (Some pred) is = none_with pred.left (equal_item pred.op pred.right) is
 
--- no equality crosses nowhere
-pub crossing_none : (q : Query) (left right : KeyParts) (pred : Option Pred)
-    → option_map_or (equality_of q) pred None ≡ None
-    → crossing_at q left right pred ≡ None
-crossing_none q left right None is = refl
-crossing_none q left right (Some pred) is = none_with q left right pred.left (equal_item pred.op pred.right) is
+  module _ (number : ℕ) (e : Equality) where
+    some_with : (pred : Pred) → slice_get q.preds number ≡ Some pred → (b : Option ℕ)
+        → equal_item pred.op pred.right ≡ b → equality_with q pred.left b ≡ Some e
+        → Equates q left right number e (sides_with q left right pred.left b)
+    some_with pred there None item is = cc
+    some_with pred there (Some b) item is =
+        let both : Equality = record { left = side_of q pred.left; right = side_of q b } in
+        let same : both ≡ e = cc in
+        subst (λ (f : Equality). Equates q left right number f (sides_of q left right pred.left b)) same (record {
+          is_at = record { pred = pred; there = there; first = refl; second = item };
+          numbers = (refl, refl);
+          same = refl;
+        })
 
--- an equality crosses where its sides lie
-pub crossing_some : (q : Query) (left right : KeyParts) (pred : Option Pred) (e : Equality)
-    → option_map_or (equality_of q) pred None ≡ Some e
-    → Equates q left right e (crossing_at q left right pred)
-crossing_some q left right None e is = cc
-crossing_some q left right (Some pred) e is = some_with q left right pred.left (equal_item pred.op pred.right) e is
+    -- an equality crosses where its sides lie
+    pub crossing_some : (pred : Option Pred) → slice_get q.preds number ≡ pred
+        → option_map_or (equality_of q) pred None ≡ Some e
+        → Equates q left right number e (crossing_at q left right pred)
+    crossing_some None there is = cc
+    crossing_some (Some pred) there is = some_with pred there (equal_item pred.op pred.right) refl is

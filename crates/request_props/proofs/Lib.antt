@@ -16,6 +16,7 @@ pub mod NumberSets
 pub mod PredicateEnds
 pub mod GroupCrossings
 pub mod ListsOfEnds
+pub mod SetEnds
 pub mod CrossingsByAny
 pub mod PhysicalLists
 pub mod JoinSetLemmas

@@ -131,3 +131,37 @@ ends_same q IsOne IsOther ends same are = record {
     λ (below, (a, b, is, one)). (are.second k).1 (below, (a, b, is, (same b).1 one)),
   );
 }
+
+-- and by either of two kinds of columns they are those by the one and those by the other
+pub ends_either : (q : Query) (IsEither IsOne IsOther : ℕ → Type 0) (one other both : EqualityEnds)
+    → ((column : ℕ) → IsEither column ↔ (IsOne column ⊎ IsOther column))
+    → AreEndsOf q IsOne one → AreEndsOf q IsOther other
+    → ((k : ℕ) → IsInSet both.first k ↔ (IsInSet one.first k ⊎ IsInSet other.first k))
+    → ((k : ℕ) → IsInSet both.second k ↔ (IsInSet one.second k ⊎ IsInSet other.second k))
+    → AreEndsOf q IsEither both
+ends_either q IsEither IsOne IsOther one other both either of_one of_other first second = record {
+  first = λ k. (
+    λ has. elim ((first k).0 has) [
+      | inl own ↦ let (below, (a, b, is, is_one)) = (of_one.first k).0 own in (below, (a, b, is, (either a).1 (inl is_one)))
+      | inr own ↦
+          let (below, (a, b, is, is_one)) = (of_other.first k).0 own in
+          (below, (a, b, is, (either a).1 (inr is_one)))
+    ],
+    λ (below, (a, b, is, is_one)). (first k).1 (elim ((either a).0 is_one) [
+      | inl own ↦ inl ((of_one.first k).1 (below, (a, b, is, own)))
+      | inr own ↦ inr ((of_other.first k).1 (below, (a, b, is, own)))
+    ]),
+  );
+  second = λ k. (
+    λ has. elim ((second k).0 has) [
+      | inl own ↦ let (below, (a, b, is, is_one)) = (of_one.second k).0 own in (below, (a, b, is, (either b).1 (inl is_one)))
+      | inr own ↦
+          let (below, (a, b, is, is_one)) = (of_other.second k).0 own in
+          (below, (a, b, is, (either b).1 (inr is_one)))
+    ],
+    λ (below, (a, b, is, is_one)). (second k).1 (elim ((either b).0 is_one) [
+      | inl own ↦ inl ((of_one.second k).1 (below, (a, b, is, own)))
+      | inr own ↦ inr ((of_other.second k).1 (below, (a, b, is, own)))
+    ]),
+  );
+}

@@ -1,7 +1,7 @@
 -- Which columns count where the equalities are found that have one of them.
 use Rattle.std.specs.Prelude.{ℕ, ◌≡◌, Option, None, Some, ⊤}
 use Rattle.query_core.specs.declared.query.Query.{Query}
-use Rattle.query_core.specs.declared.words.KeyParts.TheVariants.{Get, Join}
+use Rattle.query_core.specs.declared.words.KeyParts.TheVariants.{Get}
 use Rattle.request_props.specs.Ends.{HasColumn, IsGivenBy}
 use Rattle.request_props.specs.Numbered.{column_list, order_of, side_of}
 use Rattle.request_props.specs.declared.tables.ends.ColumnsBy.TheVariants as kinds
@@ -18,10 +18,9 @@ IsAmong q (columns.One one) = λ column. column ≡ one
 IsAmong q (columns.Listed list) = λ column. column_list q column ≡ list
 IsAmong q columns.None = λ column. ⊥
 
--- it is one of the columns of the table, the set of tables, the order or the list of this number
+-- it is one of the columns of the table, the order or the list of this number
 abbrev pub IsColumnBy : Query → ColumnsBy → ℕ → ℕ → Type 0
 IsColumnBy q kinds.Tables number = HasColumn q (Get number)
-IsColumnBy q kinds.Sets number = HasColumn q (Join number)
 IsColumnBy q kinds.Orders number = IsGivenBy (order_of q number)
 IsColumnBy q kinds.Lists number = λ column. column_list q column ≡ number
 

@@ -53,9 +53,13 @@ pub record AreEnds (q : Query) (IsOneAt : ℕ → ℕ → Type 0) (places : ℕ)
 abbrev pub AreTableEnds : Query → List EqualityEnds → Type 0
 AreTableEnds q list = AreEnds q (λ table. HasColumn q (Get table)) (length q.tables) list
 
--- the sets of each set of tables, by the set, but for that of all tables
+-- the sets of each set of tables below the bound, by the set
+abbrev pub AreSetEndsBelow : Query → ℕ → List EqualityEnds → Type 0
+AreSetEndsBelow q bound list = AreEnds q (λ set. HasColumn q (Join set)) bound list
+
+-- of all but the set of all tables
 abbrev pub AreSetEnds : Query → List EqualityEnds → Type 0
-AreSetEnds q list = AreEnds q (λ set. HasColumn q (Join set)) (2 ^ length q.tables - 1) list
+AreSetEnds q list = AreSetEndsBelow q (2 ^ length q.tables - 1) list
 
 -- the first item of the predicate is one of their columns, and its second is none
 abbrev pub HasFirstAlone : EqualityEnds → ℕ → Type 0

@@ -16,12 +16,12 @@ use crate::given::GivenDist;
 use crate::numbers::{equalities, group_order, grouped, placings};
 use crate::sides::Equality;
 use crate::tables::candidates::group_candidates;
-use crate::tables::ends::{ColumnsBy, EqualityEnds, ends_by};
+use crate::tables::ends::{ColumnsBy, EqualityEnds, ends_by, set_ends};
 use crate::tables::groups::{group_rows, query_keys};
 use crate::tables::lying::{tables_of_lists, tables_of_orders};
 use crate::tables::physical::{PhysicalCandidate, group_physical};
 use orca_base::List;
-use query_core::{Query, sets};
+use query_core::Query;
 use std::alloc::{AllocError, Global};
 
 /// What each group can hold, by the number of its key.
@@ -104,11 +104,10 @@ impl EqualityTables {
         let sides = equalities(alloc, query, lists, orders)?;
         let found = sides.as_slice();
         let tables = query.tables.len() as u32;
-        let sets = sets::first(tables);
         // With the empty order, and with the columns that have no list.
         let (all_orders, all_lists) = (orders.len() as u32 + 1, lists.len() as u32 + 1);
         let of_tables = ends_by(alloc, query, found, orders, ColumnsBy::Tables, tables)?;
-        let of_sets = ends_by(alloc, query, found, orders, ColumnsBy::Sets, sets)?;
+        let of_sets = set_ends(alloc, query, of_tables.as_slice())?;
         let of_orders = ends_by(alloc, query, found, orders, ColumnsBy::Orders, all_orders)?;
         let of_lists = ends_by(alloc, query, found, orders, ColumnsBy::Lists, all_lists)?;
         let tables = EqualityTables {

@@ -5,12 +5,12 @@ ghost use Rattle.std.specs.Prelude.{◌≡◌, ◌≤◌, ◌<◌, ◌+◌, ◌�
 ghost use Rattle.std.specs.Prelude.{slice_get, slice_index_or};
 ghost use Rattle.std.specs.Option.{option_map, option_map_or};
 ghost use Rattle.query_core.specs.Crossing.{crossing_of, sides_of};
-ghost use Rattle.request_props.specs.Counted.{IsAmong};
-ghost use Rattle.request_props.specs.Ends.{AreCrossingBy, AreEndsOf, HasColumn, IsGivenBy};
+ghost use Rattle.request_props.specs.Counted.{HaveNumbers, IsAmong};
+ghost use Rattle.request_props.specs.Ends.{AreCrossingBy, AreEndsOf, HasColumn, IsEqualityAt, IsGivenBy};
 ghost use Rattle.request_props.specs.NumberSets.{IsInSet};
 ghost use Rattle.request_props.specs.declared.given.GivenDist.TheVariants.{Hashed};
 ghost use Rattle.request_props.specs.declared.tables.ends.EqualityEnds.{EqualityEnds as AnyEqualityEnds};
-ghost use Rattle.request_props.specs.Numbered.{IsProps, side_of, both_sides, equality_of};
+ghost use Rattle.request_props.specs.Numbered.{IsProps, both_sides, equality_of};
 ghost use Rattle.request_props.specs.JoinSets.{AreThoseBelow, Merges};
 ghost use Rattle.request_props.specs.Numbered.{order_of, orders_of, column_list, column_order};
 ghost use Rattle.request_props.specs.Satisfied.{BeginsWith, Meets};
@@ -53,9 +53,35 @@ impl Props {
             option_map (both_sides query.now) (crossing_of query.now left right pred) }
     {
         match self.equality(query, pred) {
-            Some(equality) => across(query, left, right, equality.left, equality.right),
+            Some(equality) => self.across(query, left, right, pred, equality),
             None => None,
         }
+    }
+
+    // The two sides of the equality of this number, where one lies in each group.
+    fn across(
+        &self,
+        query: &Query,
+        left: KeyParts,
+        right: KeyParts,
+        pred: u32,
+        equality: Equality,
+    ) -> Option<(Side, Side)>
+        requires props { IsProps query.now self.now }
+        requires columns { IsEqualityAt query.now pred equality.left.column equality.right.column }
+        requires numbers { HaveNumbers query.now (Some equality) }
+        ensures { result ≡ option_map (both_sides query.now)
+            (sides_of query.now left right equality.left.column equality.right.column) }
+    {
+        let of_left = self.ends(query, left);
+        let of_right = self.ends(query, right);
+        if of_left.first.and(of_right.second).has(pred) {
+            return Some((equality.left, equality.right));
+        }
+        if of_left.second.and(of_right.first).has(pred) {
+            return Some((equality.right, equality.left));
+        }
+        None
     }
 
     /// The predicates that equate columns across the groups.
@@ -204,20 +230,4 @@ fn ends_at(list: &[EqualityEnds], place: u32) -> Option<EqualityEnds>
         Some(ends) => Some(*ends),
         None => None,
     }
-}
-
-// The two sides of an equality, where one lies in each group.
-fn across(query: &Query, left: KeyParts, right: KeyParts, a: Side, b: Side) -> Option<(Side, Side)>
-    requires a { a ≡ side_of query.now a.column }
-    requires b { b ≡ side_of query.now b.column }
-    ensures { result ≡
-        option_map (both_sides query.now) (sides_of query.now left right a.column b.column) }
-{
-    if query.group_has_item(left, a.column) && query.group_has_item(right, b.column) {
-        return Some((a, b));
-    }
-    if query.group_has_item(left, b.column) && query.group_has_item(right, a.column) {
-        return Some((b, a));
-    }
-    None
 }

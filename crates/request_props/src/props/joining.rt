@@ -52,6 +52,7 @@ impl Props {
     }
 
     // What fits the group of the key; this where no group has it.
+    #[inline(always)]
     fn fitting_at(&self, query: &Query, key: Key, other: FittingSets) -> FittingSets
         requires props { IsProps query.now self.now }
         requires other { AreFitting query.now other }

@@ -32,6 +32,7 @@ pub fn group_candidates(
 }
 
 // The words of the group whose key has this number, if there is one.
+#[inline(always)]
 fn candidates_at(
     alloc: Global,
     query: &Query,

@@ -2,18 +2,20 @@
 //! numbers of predicates.
 #![tactic(auto)]
 
-ghost use Rattle.std.specs.Prelude.{ℕ, ◌≡◌, ◌≤◌, ◌<◌, ◌⊎◌, ◌↔◌, IfOk, IsTrue, length, map};
+ghost use Rattle.std.specs.Prelude.{ℕ, ◌≡◌, ◌≤◌, ◌<◌, ◌^◌, ◌⊎◌, ◌↔◌, IfOk, IsTrue, length, map};
 ghost use Rattle.query_core.specs.declared.query.Query.{Query as AnyQuery};
+ghost use Rattle.query_core.specs.declared.words.KeyParts.TheVariants.{Join};
 ghost use Rattle.request_props.specs.NumberSets.{IsInSet};
 ghost use Rattle.request_props.specs.Numbered.{equality_of, order_among, orders_of, side_of};
-ghost use Rattle.request_props.specs.Ends.{AreEnds, AreEndsOf, HasAcross, HasAcrossBy, IsGivenBy};
-ghost use Rattle.request_props.specs.Ends.{HasFirstAlone, HasSecondAlone, HaveBoth};
+ghost use Rattle.request_props.specs.Ends.{AreEnds, AreEndsOf, AreSetEnds, AreSetEndsBelow, AreTableEnds};
+ghost use Rattle.request_props.specs.Ends.{HasAcross, HasAcrossBy, HasColumn, HasFirstAlone};
+ghost use Rattle.request_props.specs.Ends.{HasSecondAlone, HaveBoth, IsGivenBy};
 ghost use Rattle.request_props.specs.Counted.{HaveNumbers, IsAmong, IsByLeft, IsByRight, IsColumnBy};
 
 use crate::number_set::NumberSet;
 use crate::sides::{Equality, Side};
 use orca_base::List;
-use query_core::{KeyParts, Query};
+use query_core::{KeyParts, Query, sets};
 use std::alloc::{AllocError, Global};
 
 /// The equalities whose first column is one of some, as those of a group, and those whose second is.
@@ -24,6 +26,30 @@ pub struct EqualityEnds {
 }
 
 impl EqualityEnds {
+    // No equality.
+    fn none() -> EqualityEnds
+        ensures first { (pred : ℕ) → IsInSet result.first pred → ⊥ }
+        ensures second { (pred : ℕ) → IsInSet result.second pred → ⊥ }
+    {
+        EqualityEnds {
+            first: NumberSet::none(),
+            second: NumberSet::none(),
+        }
+    }
+
+    // Those of either.
+    fn or(self, other: EqualityEnds) -> EqualityEnds
+        ensures first { (pred : ℕ) → IsInSet result.first pred ↔
+            (IsInSet self.first pred ⊎ IsInSet other.first pred) }
+        ensures second { (pred : ℕ) → IsInSet result.second pred ↔
+            (IsInSet self.second pred ⊎ IsInSet other.second pred) }
+    {
+        EqualityEnds {
+            first: self.first.or(other.first),
+            second: self.second.or(other.second),
+        }
+    }
+
     /// Those of which one column is this one's, and the other isn't.
     pub fn leaving(self) -> EqualityEnds
         ensures first { (pred : ℕ) → IsInSet result.first pred ↔ HasFirstAlone self pred }
@@ -61,11 +87,10 @@ impl EqualityEnds {
     }
 }
 
-/// By what columns count: those of each table, of each set of tables, of each order or of each hashed list.
+/// By what columns count: those of each table, of each order or of each hashed list.
 #[derive(Clone, Copy)]
 pub enum ColumnsBy {
     Tables,
-    Sets,
     Orders,
     Lists,
 }
@@ -90,7 +115,6 @@ impl CountedColumns {
     {
         match by {
             ColumnsBy::Tables => CountedColumns::Of(KeyParts::Get(number)),
-            ColumnsBy::Sets => CountedColumns::Of(KeyParts::Join(number)),
             ColumnsBy::Orders => CountedColumns::giving(order_at(orders, number)),
             ColumnsBy::Lists => CountedColumns::Listed(number),
         }
@@ -144,6 +168,44 @@ pub fn ends_by(
     Ok(found)
 }
 
+/// For each set of tables, but for that of all tables, the equalities that have one of its columns.
+pub fn set_ends(
+    alloc: Global,
+    query: &Query,
+    of_tables: &[EqualityEnds],
+) -> Result<Vec<EqualityEnds>, AllocError>
+    requires { AreTableEnds query.now of_tables.now }
+    ensures { IfOk result (λ found. AreSetEnds query.now found.items) }
+{
+    let count = sets::first(query.tables.len() as u32);
+    let mut found = Vec::with_capacity(alloc, count as usize)?;
+    for set in 0..count {
+        found.push(ends_of_set(query, of_tables, found.as_slice(), set))?;
+    }
+    Ok(found)
+}
+
+// Those of a set: of its least table, and of the others, which are a lesser set.
+fn ends_of_set(
+    query: &Query,
+    of_tables: &[EqualityEnds],
+    of_lesser: &[EqualityEnds],
+    set: u32,
+) -> EqualityEnds
+    requires within { set < 2 ^ length query.now.tables }
+    requires tables { AreTableEnds query.now of_tables.now }
+    requires lesser { AreSetEndsBelow query.now set of_lesser.now }
+    ensures { AreEndsOf query.now (HasColumn query.now (Join set)) result }
+{
+    match sets::least(set) {
+        Some(table) => {
+            let others = sets::difference(set, sets::of_one(table));
+            of_tables[table as usize].or(of_lesser[others as usize])
+        }
+        None => EqualityEnds::none(),
+    }
+}
+
 // The order of this number; the empty one where none has it.
 fn order_at(orders: &[List<u32>], number: u32) -> &[u32]
     ensures { result.now ≡ order_among orders.now number }
@@ -166,10 +228,7 @@ pub fn ends_of(
     requires { equalities.now ≡ map (equality_of query.now) query.now.preds }
     ensures { AreEndsOf query.now (IsAmong query.now columns) result }
 {
-    let mut ends = EqualityEnds {
-        first: NumberSet::none(),
-        second: NumberSet::none(),
-    };
+    let mut ends = EqualityEnds::none();
     for pred in 0..equalities.len() {
         ends = with_ends(query, columns, equalities[pred], pred as u32, ends);
     }

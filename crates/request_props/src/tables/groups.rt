@@ -15,7 +15,7 @@ use std::alloc::{AllocError, Global};
 pub fn query_keys(alloc: Global, query: &Query) -> Result<Vec<bool>, AllocError>
     ensures { IfOk result (λ keys. AreKeys query.now keys.items) }
 {
-    let mut keys = Vec::new(alloc);
+    let mut keys = Vec::with_capacity(alloc, KEYS as usize)?;
     for number in 0..KEYS {
         keys.push(query.is_key(Key(number)))?;
     }
@@ -37,7 +37,7 @@ pub fn group_rows(alloc: Global, query: &Query, keys: &[bool]) -> Result<Vec<u64
     requires { AreKeys query.now keys.now }
     ensures { IfOk result (λ found. AreGroupRows query.now found.items) }
 {
-    let mut found = Vec::new(alloc);
+    let mut found = Vec::with_capacity(alloc, KEYS as usize)?;
     for number in 0..KEYS {
         found.push(rows_at(query, keys, number))?;
     }
@@ -45,6 +45,7 @@ pub fn group_rows(alloc: Global, query: &Query, keys: &[bool]) -> Result<Vec<u64
 }
 
 // The rows of the group whose key has this number, if there is one.
+#[inline(always)]
 fn rows_at(query: &Query, keys: &[bool], number: u32) -> u64
     requires keys { AreKeys query.now keys.now }
     requires few { number < KEYS }

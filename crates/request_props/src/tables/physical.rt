@@ -42,6 +42,7 @@ pub fn group_physical(
 }
 
 // Those of the group whose key has this number, if there is one.
+#[inline(always)]
 fn physical_at(
     alloc: Global,
     query: &Query,

@@ -7,8 +7,8 @@ use Rattle.request_props.proofs.PredicateEnds.{have_numbers, none_below, ends_mo
 use Rattle.request_props.proofs.tables.ends.ends_of.Goals as goal
 
 pub loop-pred-init : goal.loop-pred-init
-loop-pred-init c = none_below c.args.query.now (IsAmong c.args.query.now c.args.columns) _ c.none.ensures
-    c.none-2.ensures
+loop-pred-init c = none_below c.args.query.now (IsAmong c.args.query.now c.args.columns) _ c.none-ends.ensures.first
+    c.none-ends.ensures.second
 
 pub with_ends-ends-requires-clause-few : goal.with_ends-ends-requires-clause-few
 with_ends-ends-requires-clause-few c =
