@@ -1,7 +1,7 @@
 -- What a text begins with is one thing.
 use Rattle.std.proofs.Common.{◌≡◌, ℕ, suc, zero, List, [], ◌∷◌, ◌++◌, take, slice_get, Some, refl, sym, ap, subst, ◌∙◌}
 use Rattle.std.proofs.lemmas.List.{append_cancel_right}
-use Rattle.dump_replay.specs.Lines.{DumpLine, BeginsWithLine, version, capacity, root, off, print, catalog, query}
+use Rattle.dump_replay.specs.Lines.{DumpLine, BeginsWithLine, all_lines, version, capacity, root, off, print, catalog, query}
 use Rattle.dump_replay.specs.Dumps.{AreFirst, IsFirstLacking}
 use Rattle.dump_replay.proofs.Cuts.{one_cut}
 
@@ -17,6 +17,22 @@ one_begin catalog text a r b s x y = one_cut a b r s x.ends y.ends (sym x.begins
 one_begin query text a r b s x y =
     let end : r ≡ s = x.ends ∙ sym y.ends in
     (append_cancel_right a b (10 ∷ r) (sym x.begins ∙ y.begins ∙ ap (λ (t : List ℕ). b ++ (10 ∷ t)) (sym end)), end)
+
+-- a text that begins with the first three lines
+pub three_first : {text one after_one two after_two three more : List ℕ} → BeginsWithLine version text one after_one
+    → BeginsWithLine capacity after_one two after_two → BeginsWithLine root after_two three more
+    → AreFirst (take 3 all_lines) text more
+three_first {one = one} {after_one = after_one} {two = two} {after_two = after_two} {three = three} {more = more}
+    first second third =
+    (one, after_one, first, (two, after_two, second, (three, more, third, refl)))
+
+-- lines that come first, and one more behind them
+pub one_more : (lines : List DumpLine) (line : DumpLine) (text middle : List ℕ) {bytes more : List ℕ}
+    → AreFirst lines text middle → BeginsWithLine line middle bytes more → AreFirst (lines ++ line ∷ []) text more
+one_more [] line text middle {bytes = bytes} {more = more} same begins =
+    (bytes, more, subst (λ t. BeginsWithLine line t bytes more) (sym same) begins, refl)
+one_more (first ∷ lines) line text middle (bytes, rest, here, others) begins =
+    (bytes, rest, here, one_more lines line rest middle others begins)
 
 -- a text in which a line is lacking doesn't begin with all of the lines
 pub lacks_one : (lines : List DumpLine) (text more : List ℕ) (number : ℕ) → AreFirst lines text more
